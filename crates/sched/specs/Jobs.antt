@@ -1,0 +1,29 @@
+-- 01, "Words of the plan", first paragraph: a list is a horizon H, a wake cost q, and jobs numbered from 0, each with release, deadline
+-- and volume. The three lists of fields are kept apart, as they are lent; `Checks` says which of them belong together.
+use Prim.Native.Nat.{ℕ}
+use mathlib.Core.List.{List}
+use lib.ListN.{length, getD}
+use Rattle.sched.specs.Bounded.{total}
+
+pub record Jobs : Type 0 where
+  pub horizon : ℕ
+  pub wake : ℕ
+  pub releases : List ℕ
+  pub deadlines : List ℕ
+  pub volumes : List ℕ
+
+abbrev pub count : Jobs → ℕ
+count J = length (J .releases)
+
+abbrev pub release : Jobs → ℕ → ℕ
+release J j = getD (J .releases) j 0
+
+abbrev pub deadline : Jobs → ℕ → ℕ
+deadline J j = getD (J .deadlines) j 0
+
+abbrev pub volume : Jobs → ℕ → ℕ
+volume J j = getD (J .volumes) j 0
+
+-- "the sum of volumes"
+abbrev pub totalVolume : Jobs → ℕ
+totalVolume J = total (J .volumes)

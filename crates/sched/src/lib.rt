@@ -1,0 +1,164 @@
+// The words of the plan that every other crate shares: refusals, figures, and the list checks.
+ghost use mathlib.Core.Path.{_≡_};
+ghost use Rattle.sched.specs.Refusals.{number, place};
+ghost use lib.ListN.{length};
+ghost use Rattle.sched.specs.Checks.{jobCheck, jobsCheck, listCheck};
+
+// One case for each row of the refusal table that is no overload; each holds its place.
+pub enum Refusal {
+    // 11: the length of the input, which ends too early.
+    Truncated(usize),
+    // 12: 0 for the horizon, 4 for the number of jobs.
+    OutOfRange(usize),
+    // 13: the offset of a map byte with an unknown bit.
+    UnknownBit(usize),
+    // 14: the offset of a field that holds its absent value.
+    Redundant(usize),
+    // 15: the number of a job with a bad field.
+    BadJob(usize),
+    // 16: the offset of the first byte left over.
+    LeftOver(usize),
+    // 17: the size that a lent buffer or list needs.
+    TooShort(usize),
+    // 19: always 0, the three lists differ in length.
+    Unequal(usize),
+    // 21: the slot whose byte means nothing.
+    BadByte(usize),
+    // 22: the slot that names a job once too often.
+    TooOften(usize),
+    // 23: the slot that names a job outside its own slots.
+    OutOfSpan(usize),
+    // 24: the number of a job that stands too few times.
+    TooRare(usize),
+}
+
+// Whether a list, or a job, passes the list checks.
+pub enum Checked {
+    Passed,
+    Refused(Refusal),
+}
+
+// What a table costs.
+pub struct Figures {
+    pub energy: u32,
+    pub awake: u32,
+    pub runs: u32,
+}
+
+// What a plan costs, with the slots that the extension woke.
+pub struct PlanFigures {
+    pub energy: u32,
+    pub awake: u32,
+    pub runs: u32,
+    pub added: u32,
+}
+
+// The slots from a up to but without b.
+pub struct Interval {
+    pub a: usize,
+    pub b: usize,
+}
+
+// The planner's outcome.
+pub enum Outcome {
+    Planned(PlanFigures),
+    Overloaded(Interval),
+    Refused(Refusal),
+}
+
+impl Refusal {
+    pub fn number(self) -> u32
+        ensures { λ r. ⌜ r ≡ number self ⌝ }
+    {
+        match self {
+            Refusal::Truncated(_) => 11,
+            Refusal::OutOfRange(_) => 12,
+            Refusal::UnknownBit(_) => 13,
+            Refusal::Redundant(_) => 14,
+            Refusal::BadJob(_) => 15,
+            Refusal::LeftOver(_) => 16,
+            Refusal::TooShort(_) => 17,
+            Refusal::Unequal(_) => 19,
+            Refusal::BadByte(_) => 21,
+            Refusal::TooOften(_) => 22,
+            Refusal::OutOfSpan(_) => 23,
+            Refusal::TooRare(_) => 24,
+        }
+    }
+
+    pub fn place(self) -> usize
+        ensures { λ r. ⌜ r ≡ place self ⌝ }
+    {
+        match self {
+            Refusal::Truncated(at) => at,
+            Refusal::OutOfRange(at) => at,
+            Refusal::UnknownBit(at) => at,
+            Refusal::Redundant(at) => at,
+            Refusal::BadJob(at) => at,
+            Refusal::LeftOver(at) => at,
+            Refusal::TooShort(at) => at,
+            Refusal::Unequal(at) => at,
+            Refusal::BadByte(at) => at,
+            Refusal::TooOften(at) => at,
+            Refusal::OutOfSpan(at) => at,
+            Refusal::TooRare(at) => at,
+        }
+    }
+}
+
+// The check of one job; the list reader makes it too, at the job that it has just read.
+pub fn check_job(h: u16, job: usize, r: u16, d: u16, p: u16) -> Checked
+    ensures { λ c. ⌜ c ≡ jobCheck h job r d p ⌝ }
+{
+    if d <= r {
+        return Checked::Refused(Refusal::BadJob(job));
+    }
+    if h < d {
+        return Checked::Refused(Refusal::BadJob(job));
+    }
+    if p == 0 {
+        return Checked::Refused(Refusal::BadJob(job));
+    }
+    Checked::Passed
+}
+
+// The first faulty job of three lists of one length, if there is one.
+fn check_jobs(h: u16, releases: &[u16], deadlines: &[u16], volumes: &[u16]) -> Checked
+    requires { ⌜ (length (now deadlines) ≡ length (now releases)) × (length (now volumes) ≡ length (now releases)) ⌝ }
+    ensures { λ c. ⌜ c ≡ jobsCheck h (now (releases .entry)) (now (deadlines .entry)) (now (volumes .entry)) ⌝ }
+{
+    let mut j = 0;
+    while j < releases.len() {
+        match check_job(h, j, releases[j], deadlines[j], volumes[j]) {
+            Checked::Passed => {
+                j += 1;
+            }
+            Checked::Refused(r) => {
+                return Checked::Refused(r);
+            }
+        }
+    }
+    Checked::Passed
+}
+
+// The list checks, in the order in which planner, judge and list writer make them.
+pub fn check_list(h: u16, releases: &[u16], deadlines: &[u16], volumes: &[u16]) -> Checked
+    ensures { λ c. ⌜ c ≡ listCheck h (now (releases .entry)) (now (deadlines .entry)) (now (volumes .entry)) ⌝ }
+{
+    if h == 0 {
+        return Checked::Refused(Refusal::OutOfRange(0));
+    }
+    if 4096 < h {
+        return Checked::Refused(Refusal::OutOfRange(0));
+    }
+    if deadlines.len() != releases.len() {
+        return Checked::Refused(Refusal::Unequal(0));
+    }
+    if volumes.len() != releases.len() {
+        return Checked::Refused(Refusal::Unequal(0));
+    }
+    if 64 < releases.len() {
+        return Checked::Refused(Refusal::OutOfRange(4));
+    }
+    check_jobs(h, releases, deadlines, volumes)
+}
