@@ -1,0 +1,4 @@
+-- Earliest deadline first. `Theorems` has the statements about the words of 01; the other files lead to them.
+pub mod Run
+pub mod Pick
+pub mod Units
