@@ -2,3 +2,5 @@
 pub mod Run
 pub mod Pick
 pub mod Units
+pub mod Apart
+pub mod Exchange
