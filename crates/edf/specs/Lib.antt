@@ -4,3 +4,6 @@ pub mod Pick
 pub mod Units
 pub mod Apart
 pub mod Exchange
+pub mod Left
+pub mod Placements
+pub mod Search
