@@ -7,3 +7,5 @@ pub mod Exchange
 pub mod Left
 pub mod Placements
 pub mod Search
+pub mod Whole
+pub mod Theorems
