@@ -41,6 +41,12 @@ module _ (F : Spans) (S : ℕ → Bool) (p : State) where
   final-left zero t T e = let q : t ≡ T = omega arith in rw q
   final-left (suc h) t T e = final-left h (suc t) T (omega arith)
 
+  -- served and lost units together are those of the start
+  pub vol-and-left : (H : ℕ) → vol F S H 0 p + allUnits F (left F S p H) ≡ allUnits F p
+  unfolding left
+  vol-and-left H =
+      ap (λ (L : State). vol F S H 0 p + allUnits F L) (sym (final-left H 0 H (omega arith))) ∙ served-and-left F S H 0 p
+
   left-step : (t j : ℕ) → left F S p (suc t) j ≤ left F S p t j
   unfolding left
   left-step t j =

@@ -9,3 +9,8 @@ pub mod Placements
 pub mod Search
 pub mod Whole
 pub mod Theorems
+pub mod Find
+pub mod Carry
+pub mod OneSlotMore
+pub mod Helping
+pub mod Shortage
