@@ -14,3 +14,4 @@ pub mod Carry
 pub mod OneSlotMore
 pub mod Helping
 pub mod Shortage
+pub mod Touching
