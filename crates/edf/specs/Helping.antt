@@ -10,9 +10,9 @@ use Rattle.edf.specs.Run.{Spans, State, Eligible, chosen, after, gain, v
 use Rattle.edf.specs.Pick.{Chosen, View, view}
 use Rattle.edf.specs.Units.{OneMore, sum-one-more}
 use Rattle.edf.specs.Apart.{Step, stays, moves, meets}
-use Rattle.edf.specs.Left.{vol-and-left}
+use Rattle.edf.specs.Left.{vol-and-left, left-asleep}
 use Rattle.edf.specs.Carry.{Carry, carry-more, carry-eligible}
-use Rattle.edf.specs.OneSlotMore.{Extra, Gap, closed, Open, open-at, asleep-step, extra-step, extra-apart, apart-step, gap, extra-leaves-less}
+use Rattle.edf.specs.OneSlotMore.{Extra, Gap, closed, Open, open-at, extra-step, extra-apart, apart-step, gap, extra-leaves-less}
 
 -- units due at e are left where nothing can serve them any more
 pub record Lossy (F : Spans) (e : ℕ) (L : State) : Type 0 where
@@ -66,9 +66,9 @@ module _ (F : Spans) (S S′ : ℕ → Bool) (p : State) (x H : ℕ) (c : Extra 
 
   due-start : (e : ℕ) (o : Option ℕ) → View F true x (left F S p x) o → left F S′ p (suc x) ≡ after (left F S p x) o → Carry F e (suc x) (left F S p (suc x)) → DueBy e (suc x)
   due-start e none v q k =
-      absurd (v refl (k .job) (carry-eligible F e x (left F S p (suc x)) (left F S p x) k (rw (asleep-step F S S′ p x c) at (k .unit))))
+      absurd (v refl (k .job) (carry-eligible F e x (left F S p (suc x)) (left F S p x) k (rw (left-asleep F S p x (c .asleep)) at (k .unit))))
   due-start e (some m) v q k =
-      let a = carry-eligible F e x (left F S p (suc x)) (left F S p x) k (rw (asleep-step F S S′ p x c) at (k .unit)) in
+      let a = carry-eligible F e x (left F S p (suc x)) (left F S p x) k (rw (left-asleep F S p x (c .asleep)) at (k .unit)) in
       record {
         job = m;
         below = v .1 .able .below;

@@ -15,3 +15,4 @@ pub mod OneSlotMore
 pub mod Helping
 pub mod Shortage
 pub mod Touching
+pub mod Table

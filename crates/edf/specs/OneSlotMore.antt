@@ -11,6 +11,7 @@ use Rattle.sched.specs.Bounded.Laws.{lt-suc}
 use Rattle.edf.specs.Run.{Spans, State, Eligible, chosen, lowered, after, gain, left}
 use Rattle.edf.specs.Pick.{Chosen, View, view}
 use Rattle.edf.specs.Units.{OneMore, lowered-less, less-everywhere}
+use Rattle.edf.specs.Left.{left-asleep}
 use Rattle.edf.specs.Carry.{Carry, carry-later, own-carry}
 use Rattle.edf.specs.Apart.{Step, stays, moves, meets, step}
 
@@ -49,21 +50,16 @@ module _ (F : Spans) (S S′ : ℕ → Bool) (p : State) (x : ℕ) (c : Extra S 
   before-extra zero l = refl
   before-extra (suc t) l = stay-closed t (omega arith) (before-extra t (omega arith))
 
-  -- a sleeping slot leaves the state alone
-  pub asleep-step : left F S p (suc x) ≡ left F S p x
-  unfolding left chosen
-  asleep-step = rw (c .asleep, left, chosen)
-
   -- at x the second run serves the first eligible job, if there is one
   pub extra-step : left F S′ p (suc x) ≡ after (left F S p x) (chosen F true x (left F S p x))
   unfolding left
   extra-step = rw (c .awake) (ap (λ (L : State). after L (chosen F true x L)) (sym (before-extra x (omega arith))))
 
   pub extra-apart : (k : ℕ) → Chosen F x (left F S p x) k → left F S′ p (suc x) ≡ lowered (left F S p x) k → OneMore k (left F S p (suc x)) (left F S′ p (suc x))
-  extra-apart k v e = rw (asleep-step, e) (lowered-less (left F S p x) k (v .able .unit))
+  extra-apart k v e = rw (left-asleep F S p x (c .asleep), e) (lowered-less (left F S p x) k (v .able .unit))
 
   opened : (o : Option ℕ) → View F true x (left F S p x) o → left F S′ p (suc x) ≡ after (left F S p x) o → Gap F S S′ p x (suc x)
-  opened none v e = closed (asleep-step ∙ sym e)
+  opened none v e = closed (left-asleep F S p x (c .asleep) ∙ sym e)
   opened (some k) v e =
       open-at (record {
         job = k;
@@ -74,7 +70,7 @@ module _ (F : Spans) (S S′ : ℕ → Bool) (p : State) (x : ℕ) (c : Extra S 
         carried = λ s a b d.
           let q : s ≡ suc x = omega arith in
           own-carry F k s (left F S p s) (v .1 .able .below) (omega (arith, v .1 .able .released)) d
-          (rw (q, asleep-step) (v .1 .able .unit));
+          (rw (q, left-asleep F S p x (c .asleep)) (v .1 .able .unit));
       })
 
   -- one unit apart at another slot
