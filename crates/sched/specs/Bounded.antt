@@ -4,6 +4,7 @@ use mathlib.Core.Bool.{Bool, true, false, _&&_, _||_}
 use mathlib.Core.List.{List, [], _∷_}
 use mathlib.Core.Option.{Option, none, some}
 use lib.Dec.{leb}
+pub mod Laws
 
 -- f holds of some number below n
 unfoldable pub anyBelow : ℕ → (ℕ → Bool) → Bool

@@ -11,6 +11,7 @@ use Rattle.sched.specs.declared.Refusal.{Refusal}
 use Rattle.sched.specs.declared.Refusal.the-variants.{OutOfRange, BadJob, Unequal}
 use Rattle.sched.specs.declared.Checked.{Checked}
 use Rattle.sched.specs.declared.Checked.the-variants.{Passed, Refused}
+pub mod Laws
 
 -- "each job has r < d, d ≤ H and p of at least 1"
 pub record GoodJob (h r d p : ℕ) : Type 0 where
