@@ -1,13 +1,12 @@
 -- What the shown interval is, in one statement for either answer; and when an interval is overloaded, part by part.
 use Prim.Native.Nat.{ℕ, _-_, _≤_, _<_}
-use mathlib.Core.Path.{_≡_}
-use mathlib.Core.Bool.{Bool, true, false}
 use mathlib.Core.Option.{Option, none, some}
 use Rattle.sched.specs.Jobs.{Jobs}
-use Rattle.sched.specs.Overload.{overloaded, volumeInside}
+use Rattle.sched.specs.Overload.{volumeInside}
 use Rattle.sched.specs.declared.Interval.{Interval}
 pub mod Laws
 pub mod Counting
+pub mod Ends
 
 -- the jobs inside a..b need more slots than it has
 pub record Overfull (J : Jobs) (a b : ℕ) : Type 0 where

@@ -1,15 +1,15 @@
 -- A rival's table is any feasible one: its awake slots are a skeleton, so the least skeleton costs no more than they do.
 use Prim.Native.Nat.{ℕ, zero, suc, _≤_, _<_}
-use mathlib.Core.Path.{_≡_, refl, ap, sym, _∙_}
+use mathlib.Core.Path.{_≡_, refl, ap, _∙_}
 use mathlib.Core.Bool.{Bool, true, false, not, _&&_}
 use mathlib.Core.List.{List, [], _∷_}
 use native.Mathlib.Omega.{arith}
 use borrow.Author.Tests.{eqb-true, ne-eqb, le-leb}
 use lib.ListN.{length, getD}
 use lib.Dec.{leb, eqb}
-use Rattle.sched.specs.Bounded.{anyBelow, allBelow}
+use Rattle.sched.specs.Bounded.{anyBelow}
 use Rattle.sched.specs.Bounded.Laws.{all-intro, any-intro}
-use Rattle.sched.specs.Jobs.{Jobs, count, release, deadline, volume}
+use Rattle.sched.specs.Jobs.{Jobs, count, release, deadline}
 use Rattle.sched.specs.Checks.{Passes}
 use Rattle.sched.specs.Slots.{awake, awakeOf, times, asleep}
 use Rattle.sched.specs.Feasible.{OwnSlot, Feasible}

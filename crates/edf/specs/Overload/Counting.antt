@@ -2,7 +2,7 @@
 -- units in slots of that interval, at most one a slot.
 use Prim.Native.Nat.{ℕ, zero, suc, _+_, _-_, _≤_, _<_}
 use mathlib.Core.Path.{_≡_, refl, sym, ap, ap₂, _∙_}
-use mathlib.Core.Bool.{Bool, true, false, not, _&&_}
+use mathlib.Core.Bool.{Bool, true, false, not, _&&_, and-false, and-true as and-true-right}
 use mathlib.Core.List.{List, [], _∷_}
 use native.Mathlib.Omega.{arith}
 use native.Mathlib.Decide.{ℕ-discrete, decLt}
@@ -10,14 +10,13 @@ use borrow.Author.Tests.{ltb-true, leb-true, lt-ltb, le-ltb, eq-eqb, ne-eqb}
 use lib.ListN.{length, getD, List·getD-map}
 use lib.Seq.{drop-cons}
 use lib.Dec.{leb, ltb, eqb}
-use Rattle.sched.specs.Bounded.{sumBelow, total}
-use Rattle.sched.specs.Bounded.Laws.{by-bool, and-true, lt-suc, sum-ext, sum-add, sum-zero, sum-total}
+use Rattle.sched.specs.Bounded.{sumBelow}
+use Rattle.sched.specs.Bounded.Laws.{and-true, sum-ext, sum-add, sum-zero, sum-total}
 use Rattle.sched.specs.Jobs.{Jobs, count, release, deadline, volume, totalVolume}
 use Rattle.sched.specs.Slots.{awake, awakeOf, times, asleep}
-use Rattle.sched.specs.Feasible.{OwnSlot, Feasible}
+use Rattle.sched.specs.Feasible.{Feasible}
 use Rattle.sched.specs.Overload.{overloaded, volumeIf, volumeInside}
 use Rattle.sched.specs.Workable.{Placement, units}
-use Rattle.edf.specs.Overload.{Overfull}
 use Rattle.edf.specs.Overload.Laws.{not-overfull}
 
 abbrev one : Bool → ℕ
@@ -28,14 +27,6 @@ one false = 0
 hits : (ℕ → Bool) → ℕ → List ℕ → ℕ
 hits f n [] = 0
 hits f n (x ∷ l) = one (ltb x n && f x) + hits f n l
-
-and-false : (b : Bool) → b && false ≡ false
-and-false true = refl
-and-false false = refl
-
-and-true-right : (b : Bool) → b && true ≡ b
-and-true-right true = refl
-and-true-right false = refl
 
 -- a byte is one of the numbers below n at most once
 sum-hit : (f : ℕ → Bool) (x n : ℕ) → sumBelow n (λ j. one (f j && eqb x j)) ≡ one (ltb x n && f x)

@@ -1,15 +1,14 @@
 -- The interval that 01 shows is the one that `Shown` describes, and there is one exactly where an interval is overloaded.
-use Prim.Native.Nat.{ℕ, zero, suc, _+_, _-_, _≤_, _<_}
-use mathlib.Core.Path.{_≡_, refl, sym, ap, ap₂, subst, _∙_}
+use Prim.Native.Nat.{ℕ, _-_, _≤_, _<_}
+use mathlib.Core.Path.{_≡_, refl, ap, subst}
 use mathlib.Core.Bool.{Bool, true, false, _&&_}
-use mathlib.Core.Logic.{_↔_}
 use mathlib.Core.Option.{Option, none, some}
 use native.Mathlib.Omega.{arith}
 use native.Mathlib.Decide.{decLt}
 use borrow.Author.Tests.{ltb-true, leb-true, lt-ltb, le-leb}
 use lib.Dec.{leb, ltb}
 use Rattle.sched.specs.Bounded.{anyBelow, leastFrom, lastBelow}
-use Rattle.sched.specs.Bounded.Laws.{by-bool, true-not-false, and-true, any-intro, any-elim, any-none, Least, least-some, least-none, Last, last-some, last-none}
+use Rattle.sched.specs.Bounded.Laws.{by-bool, true-not-false, and-true, any-intro, any-elim, Least, least-some, least-none, Last, last-some, last-none}
 use Rattle.sched.specs.Jobs.{Jobs}
 use Rattle.sched.specs.Overload.{overloaded, volumeInside, overloadEndingAt, shownOverload}
 use Rattle.sched.specs.declared.Interval.{Interval}

@@ -1,7 +1,7 @@
 -- Waking a sleeping slot that touches the set adds one awake slot and no run; what follows for the slots that step 3 wakes, and that it
 -- wakes as many as the volume is short of, if a slot to wake is always there.
-use Prim.Native.Nat.{ℕ, zero, suc, _+_, _*_, _-_, _≤_, _<_}
-use mathlib.Core.Path.{_≡_, refl, ap, sym, _∙_}
+use Prim.Native.Nat.{ℕ, zero, suc, _+_, _-_, _≤_, _<_}
+use mathlib.Core.Path.{_≡_, refl, ap, _∙_}
 use mathlib.Core.Bool.{Bool, true, false, _&&_, _||_, not, true≢false, false≢true}
 use mathlib.Core.List.{List, [], _∷_}
 use mathlib.Core.Option.{Option, none, some}
@@ -9,12 +9,12 @@ use native.Mathlib.Omega.{arith}
 use native.Mathlib.Decide.{decLt}
 use native.Mathlib.Nat.{le-refl, mul-le-mul, not-suc-le-zero}
 use borrow.Author.Tests.{ltb-true, ltb-false, eqb-true, not-true}
-use lib.ListN.{length, getD, set, length-set}
-use lib.Dec.{leb, ltb, eqb}
-use Rattle.sched.specs.Bounded.{anyBelow, allBelow, leastFrom}
-use Rattle.sched.specs.Bounded.Laws.{and-true, true-not-false, all-intro, all-elim, any-intro, any-elim, Least, least-some, least-none}
+use lib.ListN.{length, length-set}
+use lib.Dec.{ltb, eqb}
+use Rattle.sched.specs.Bounded.{anyBelow}
+use Rattle.sched.specs.Bounded.Laws.{and-true, true-not-false, all-intro, all-elim, any-intro, any-elim, least-some, least-none}
 use Rattle.sched.specs.Jobs.{Jobs, count, totalVolume}
-use Rattle.sched.specs.Slots.{awake, awakeBefore, touches, wakeSlot}
+use Rattle.sched.specs.Slots.{awake, touches, wakeSlot}
 use Rattle.sched.specs.Energy.{awakeSlots, runsFrom, energy}
 use Rattle.sched.specs.Skeleton.{isSkeleton, inWindow}
 use Rattle.sched.specs.Workable.{workable}
