@@ -7,6 +7,8 @@ use Rattle.sched.specs.declared.Interval.{Interval}
 pub mod Laws
 pub mod Counting
 pub mod Ends
+pub mod Order
+pub mod Search
 
 -- the jobs inside a..b need more slots than it has
 pub record Overfull (J : Jobs) (a b : ℕ) : Type 0 where
