@@ -10,6 +10,7 @@ use Rattle.sched.specs.Workable.{workable}
 use Rattle.sched.specs.Skeleton.{isSkeleton}
 use Rattle.sched.specs.Steps.{wakes}
 pub mod Laws
+pub mod Cursor
 
 -- a turn that wakes slot t
 pub record Turn (J : Jobs) (S : List Bool) (t : ℕ) : Type 0 where

@@ -10,7 +10,7 @@ use native.Mathlib.Decide.{decLt}
 use native.Mathlib.Nat.{le-refl, mul-le-mul, not-suc-le-zero}
 use borrow.Author.Tests.{ltb-true, ltb-false, eqb-true, not-true}
 use lib.ListN.{length, length-set}
-use lib.Dec.{ltb, eqb}
+use lib.Dec.{ltb}
 use Rattle.sched.specs.Bounded.{anyBelow}
 use Rattle.sched.specs.Bounded.Laws.{and-true, true-not-false, all-intro, all-elim, any-intro, any-elim, least-some, least-none}
 use Rattle.sched.specs.Jobs.{Jobs, count, totalVolume}
@@ -142,14 +142,19 @@ module _ (J : Jobs) where
 
   -- step 3
 
-  pub wakes-turn : (S : List Bool) (t : ℕ) → t < J .horizon → wakes J S t ≡ true → Turn J S t
-  unfolding wakes helps
-  wakes-turn S t l w =
-      let a = and-true (not (awake S t) && touches S t) (eqb (workable J (wakeSlot S t)) (suc (workable J S))) w in
+  pub wakes-parts : (S : List Bool) (t : ℕ) → wakes J S t ≡ true → (awake S t ≡ false) × (touches S t ≡ true) × (helps J S t ≡ true)
+  unfolding wakes
+  wakes-parts S t w =
+      let a = and-true (not (awake S t) && touches S t) (helps J S t) w in
       let b = and-true (not (awake S t)) (touches S t) (a .0) in
-      record { below = l; sleeps = not-true (awake S t) (b .0); near = b .1; gains = eqb-true _ _ (a .1) }
+      (not-true (awake S t) (b .0), b .1, a .1)
 
-  next-turn : (S : List Bool) (t : ℕ) → nextWake J S ≡ some t → Turn J S t
+  pub wakes-turn : (S : List Bool) (t : ℕ) → t < J .horizon → wakes J S t ≡ true → Turn J S t
+  unfolding helps
+  wakes-turn S t l w = let a = wakes-parts S t w in record { below = l; sleeps = a .0; near = a .1; gains = eqb-true _ _ (a .2) }
+
+  -- the slot that step 3 wakes next
+  pub next-turn : (S : List Bool) (t : ℕ) → nextWake J S ≡ some t → Turn J S t
   unfolding nextWake
   next-turn S t e = let f = least-some (J .horizon) 0 (wakes J S) t e in wakes-turn S t (omega (arith, f .below)) (f .holds)
 
