@@ -16,3 +16,4 @@ pub mod Helping
 pub mod Shortage
 pub mod Touching
 pub mod Table
+pub mod Overload
