@@ -18,4 +18,5 @@ pub mod FromState
 pub mod Whole
 pub mod Sets
 pub mod Room
+pub mod Overload
 pub mod Theorems
