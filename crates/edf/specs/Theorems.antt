@@ -1,5 +1,6 @@
 -- What earliest deadline first says about the words of 01: the workable volume of a set of slots, which slots help it, and when a list
--- has a feasible table.
+-- has a feasible table. `FromState` has the law for the rest of a run, from any slot and any units left; `AnyTie` that the rule on equal
+-- deadlines does not matter to what is served.
 use Prim.Native.Nat.{ℕ, suc, _≤_, _<_}
 use mathlib.Core.Path.{_≡_, refl, sym, _∙_}
 use mathlib.Core.Bool.{Bool, true, false}
@@ -18,7 +19,7 @@ use Rattle.sched.specs.Workable.{Placement, Greatest, units, workable}
 use Rattle.sched.specs.Steps.{helps, wakes, tableOf}
 use Rattle.edf.specs.Run.{spans, left, allUnits, edfVolume}
 use Rattle.edf.specs.Search.{reads-whole}
-use Rattle.edf.specs.Helping.{Lacking}
+use Rattle.edf.specs.Lacking.{Lacking}
 use Rattle.edf.specs.Touching.{touching-lacks, all-awake-serves}
 use Rattle.edf.specs.Table.{fill-awake, fill-is-run, run-feasible}
 use Rattle.edf.specs.Whole.{run-greatest, search-finds-run, served-and-lost, nothing-lost}
