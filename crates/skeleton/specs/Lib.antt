@@ -3,4 +3,7 @@ pub mod Recursion
 pub mod Precedence
 pub mod Enumeration
 pub mod Windows
+pub mod Order
+pub mod Runs
+pub mod Cases
 pub mod Theorems
