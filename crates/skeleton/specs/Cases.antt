@@ -13,6 +13,9 @@ record Found : Type 0 where
   energy : ℕ
   runs : List Run
 
+run : ℕ → ℕ → Run
+run first slots = record { first = first; slots = slots }
+
 found : Jobs → ℕ → Found
 found J n =
     record {
@@ -26,18 +29,18 @@ found J n =
 first : ℕ → Jobs
 first q = record { horizon = 12; wake = q; releases = 0 ∷ 6 ∷ []; deadlines = 4 ∷ 10 ∷ []; volumes = 2 ∷ 2 ∷ [] }
 
-first-run : found (first 3) 2 ≡ record { order = 0 ∷ 1 ∷ []; numbers = 2 ∷ 1 ∷ []; energy = 5; runs = record { first = 4; slots = 2 } ∷ [] }
-unfolding found first insertByEnd byEnd sleepCost runEnd values runsOf
+first-run : found (first 3) 2 ≡ record { order = 0 ∷ 1 ∷ []; numbers = 2 ∷ 1 ∷ []; energy = 5; runs = run 4 2 ∷ [] }
+unfolding run found first insertByEnd byEnd sleepCost runEnd values runsOf
 first-run = refl
 
-free-wakes : found (first 0) 2 ≡ record { order = 0 ∷ 1 ∷ []; numbers = 2 ∷ 1 ∷ []; energy = 2; runs = record { first = 4; slots = 1 } ∷ record { first = 10; slots = 1 } ∷ [] }
-unfolding found first insertByEnd byEnd sleepCost runEnd values runsOf
+free-wakes : found (first 0) 2 ≡ record { order = 0 ∷ 1 ∷ []; numbers = 2 ∷ 1 ∷ []; energy = 2; runs = run 4 1 ∷ run 10 1 ∷ [] }
+unfolding run found first insertByEnd byEnd sleepCost runEnd values runsOf
 free-wakes = refl
 
 -- H 10, q 3, (0,3,1) (8,10,2) (0,10,5), with the last job put first: slots 3 and 9
 third : Jobs
 third = record { horizon = 10; wake = 3; releases = 0 ∷ 0 ∷ 8 ∷ []; deadlines = 10 ∷ 3 ∷ 10 ∷ []; volumes = 5 ∷ 1 ∷ 2 ∷ [] }
 
-third-runs : found third 3 ≡ record { order = 1 ∷ 0 ∷ 2 ∷ []; numbers = 5 ∷ 1 ∷ 1 ∷ []; energy = 8; runs = record { first = 3; slots = 1 } ∷ record { first = 9; slots = 1 } ∷ [] }
-unfolding found third insertByEnd byEnd sleepCost runEnd values runsOf
+third-runs : found third 3 ≡ record { order = 1 ∷ 0 ∷ 2 ∷ []; numbers = 5 ∷ 1 ∷ 1 ∷ []; energy = 8; runs = run 3 1 ∷ run 9 1 ∷ [] }
+unfolding run found third insertByEnd byEnd sleepCost runEnd values runsOf
 third-runs = refl

@@ -26,8 +26,18 @@ pub rest-next : (J : Jobs) (j : ℕ) (js : List ℕ) → Rest J (j ∷ js) → R
 rest-next J j js r = record {
   rising = r .rising .1;
   listed = λ k m. r .listed k (there m);
-  before = λ k l. ⊎-elim (λ (m : Among k (j ∷ js)). ⊎-elim (λ (q : k ≡ j). inr (rw q (r .rising .0))) (λ (n : Among k js). inl n) (apart m)) (λ (f : (i : ℕ) → Among i (j ∷ js) → windowEnd J k ≤ windowEnd J i). inr (λ i m. f i (there m))) (r .before k l);
+  before = λ k l. ⊎-elim (λ (m : Among k (j ∷ js)). inside k (apart m)) (outside k) (r .before k l);
 }
+  where
+    Before : ℕ → List ℕ → Type 0
+    Before k l = (i : ℕ) → Among i l → windowEnd J k ≤ windowEnd J i
+
+    inside : (k : ℕ) → (k ≡ j) ⊎ Among k js → Among k js ⊎ Before k js
+    inside k (inl q) = inr (rw q (r .rising .0))
+    inside k (inr n) = inl n
+
+    outside : (k : ℕ) → Before k (j ∷ js) → Among k js ⊎ Before k js
+    outside k f = inr (λ i m. f i (there m))
 
 -- the jobs from place i on are jobs of the list, for code that goes by places
 
@@ -64,7 +74,11 @@ module _ (J : Jobs) where
 
   insert-new : (j : ℕ) (ks : List ℕ) → Among j (insertByEnd J j ks)
   insert-new j [] = rw (insert-last j) (here refl)
-  insert-new j (k ∷ ks) = by-bool (leb (windowEnd J k) (windowEnd J j)) (λ e. rw (insert-behind j k ks e) (there (insert-new j ks))) (λ e. rw (insert-before j k ks e) (here refl))
+  insert-new j (k ∷ ks) =
+      by-bool
+      (leb (windowEnd J k) (windowEnd J j))
+      (λ e. rw (insert-behind j k ks e) (there (insert-new j ks)))
+      (λ e. rw (insert-before j k ks e) (here refl))
 
   insert-old : (j i : ℕ) (ks : List ℕ) → Among i ks → Among i (insertByEnd J j ks)
   insert-old j i [] m = absurd (nowhere m)
@@ -75,7 +89,11 @@ module _ (J : Jobs) where
 
   insert-among : (j i : ℕ) (ks : List ℕ) → Among i (insertByEnd J j ks) → (i ≡ j) ⊎ Among i ks
   insert-among j i [] m = apart (rw (insert-last j) at m)
-  insert-among j i (k ∷ ks) m = by-bool (leb (windowEnd J k) (windowEnd J j)) (λ e. behind (apart (rw (insert-behind j k ks e) at m)) (insert-among j i ks)) (λ e. apart (rw (insert-before j k ks e) at m))
+  insert-among j i (k ∷ ks) m =
+      by-bool
+      (leb (windowEnd J k) (windowEnd J j))
+      (λ e. behind (apart (rw (insert-behind j k ks e) at m)) (insert-among j i ks))
+      (λ e. apart (rw (insert-before j k ks e) at m))
     where
       behind : (i ≡ k) ⊎ Among i (insertByEnd J j ks) → (Among i (insertByEnd J j ks) → (i ≡ j) ⊎ Among i ks) → (i ≡ j) ⊎ Among i (k ∷ ks)
       behind (inl q) ih = inr (here q)
@@ -83,18 +101,27 @@ module _ (J : Jobs) where
 
   insert-rising : (j : ℕ) (ks : List ℕ) → Rising J ks → Rising J (insertByEnd J j ks)
   insert-rising j [] r = rw (insert-last j) (λ i m. absurd (nowhere m), tt)
-  insert-rising j (k ∷ ks) r = by-bool (leb (windowEnd J k) (windowEnd J j)) (λ e. rw (insert-behind j k ks e) (over e, insert-rising j ks (r .1))) (λ e. rw (insert-before j k ks e) (under e, r))
+  insert-rising j (k ∷ ks) r =
+      by-bool
+      (leb (windowEnd J k) (windowEnd J j))
+      (λ e. rw (insert-behind j k ks e) (over e, insert-rising j ks (r .1)))
+      (λ e. rw (insert-before j k ks e) (under e, r))
     where
       over : leb (windowEnd J k) (windowEnd J j) ≡ true → (i : ℕ) → Among i (insertByEnd J j ks) → windowEnd J k ≤ windowEnd J i
       over e i m = ⊎-elim (λ (q : i ≡ j). rw q (leb-true _ _ e)) (λ (n : Among i ks). r .0 i n) (insert-among j i ks m)
 
       under : leb (windowEnd J k) (windowEnd J j) ≡ false → (i : ℕ) → Among i (k ∷ ks) → windowEnd J j ≤ windowEnd J i
-      under e i m = let l = leb-false (windowEnd J k) (windowEnd J j) e in ⊎-elim (λ (q : i ≡ k). rw q (omega arith)) (λ (n : Among i ks). omega (arith, r .0 i n)) (apart m)
+      under e i m =
+          let l = leb-false (windowEnd J k) (windowEnd J j) e in
+          ⊎-elim (λ (q : i ≡ k). rw q (omega arith)) (λ (n : Among i ks). omega (arith, r .0 i n)) (apart m)
 
   insert-length : (j : ℕ) (ks : List ℕ) → length (insertByEnd J j ks) ≡ suc (length ks)
   insert-length j [] = ap length (insert-last j)
   insert-length j (k ∷ ks) =
-      by-bool (leb (windowEnd J k) (windowEnd J j)) (λ e. ap length (insert-behind j k ks e) ∙ ap suc (insert-length j ks)) (λ e. ap length (insert-before j k ks e))
+      by-bool
+      (leb (windowEnd J k) (windowEnd J j))
+      (λ e. ap length (insert-behind j k ks e) ∙ ap suc (insert-length j ks))
+      (λ e. ap length (insert-before j k ks e))
 
   by-end-rising : (n : ℕ) → Rising J (byEnd J n)
   unfolding byEnd
@@ -104,12 +131,14 @@ module _ (J : Jobs) where
   by-end-listed : (n j : ℕ) → Among j (byEnd J n) → j < n
   unfolding byEnd
   by-end-listed zero j m = absurd (nowhere m)
-  by-end-listed (suc n) j m = ⊎-elim (λ (q : j ≡ n). omega arith) (λ (o : Among j (byEnd J n)). let l = by-end-listed n j o in omega arith) (insert-among n j (byEnd J n) m)
+  by-end-listed (suc n) j m =
+      ⊎-elim (λ (q : j ≡ n). omega arith) (λ (o : Among j (byEnd J n)). let l = by-end-listed n j o in omega arith) (insert-among n j (byEnd J n) m)
 
   by-end-all : (n j : ℕ) → j < n → Among j (byEnd J n)
   unfolding byEnd
   by-end-all zero j l = absurd (omega arith)
-  by-end-all (suc n) j l = ⊎-elim (λ (m : j < n). insert-old n j (byEnd J n) (by-end-all n j m)) (λ (q : j ≡ n). rw q (insert-new n (byEnd J n))) (lt-suc l)
+  by-end-all (suc n) j l =
+      ⊎-elim (λ (m : j < n). insert-old n j (byEnd J n) (by-end-all n j m)) (λ (q : j ≡ n). rw q (insert-new n (byEnd J n))) (lt-suc l)
 
   pub by-end-length : (n : ℕ) → length (byEnd J n) ≡ n
   unfolding byEnd

@@ -82,9 +82,12 @@ module _ (due : ℕ → ℕ → Bool) (q : ℕ) (rises : (c c′ t : ℕ) → c 
 
   each-costs : (b : Bool) (t c : ℕ) (S : List Bool) → Allowed due t c S → L (length S) b t c ≤ cost q b S
   each-costs b t c [] ok = omega (arith, least-end due q b t c)
-  each-costs false t c (false ∷ S) ok = omega (arith, least-sleeps due q (length S) t c (ok .0), cost-sleep q false S, each-costs false (suc t) c S (ok .1))
+  each-costs false t c (false ∷ S) ok =
+      omega (arith, least-sleeps due q (length S) t c (ok .0), cost-sleep q false S, each-costs false (suc t) c S (ok .1))
   each-costs false t c (true ∷ S) ok = omega (arith, wake-early (length S) t c, cost-awake q false S, each-costs true (suc t) (suc t) S ok)
-  each-costs true t c (false ∷ S) ok = omega (arith, least-true-le due q (suc (length S)) t c, least-sleeps due q (length S) t c (ok .0), cost-sleep q true S, each-costs false (suc t) c S (ok .1))
+  each-costs true t c (false ∷ S) ok =
+      let le = least-true-le due q (suc (length S)) t c in
+      omega (arith, least-sleeps due q (length S) t c (ok .0), cost-sleep q true S, each-costs false (suc t) c S (ok .1))
   each-costs true t c (true ∷ S) ok = omega (arith, least-awake due q (length S) t c, cost-awake q true S, each-costs true (suc t) (suc t) S ok)
 
   pub allowed-costs : (k : ℕ) (b : Bool) (t c : ℕ) (S : List Bool) → length S ≡ k → Allowed due t c S → L k b t c ≤ cost q b S

@@ -11,8 +11,8 @@ use borrow.Author.Tests.{le-leb, lt-leb, leb-true, leb-false, ltb-true, ltb-fals
 use Rattle.sched.specs.Jobs.{Jobs}
 use Rattle.sched.specs.Bounded.Laws.{by-bool, true-not-false, and-true, or-true, or-false}
 use Rattle.skeleton.specs.Windows.{windowStart}
-use Rattle.skeleton.specs.Runs.{sleepCost, throughCost, beats, runEnd}
-use Rattle.skeleton.specs.Runs.Clauses.{sleep-wakes, sleep-skips, takes, run-end-none, run-end-takes, run-end-keeps}
+use Rattle.skeleton.specs.Runs.{sleepCost, throughCost, beats, runEnd, takes}
+use Rattle.skeleton.specs.Runs.Clauses.{sleep-wakes, sleep-skips, run-end-none, run-end-takes, run-end-keeps}
 
 -- a job whose window starts at u
 record Starts (J : Jobs) (u : ℕ) (js : List ℕ) : Type 0 where
@@ -29,7 +29,8 @@ starts-or-same J u (j ∷ js) (v ∷ vs) = go (ℕ-discrete (windowStart J j) u)
     more : Starts J u js → Starts J u (j ∷ js)
     more h = record { job = h .job; inside = there (h .inside); is = h .is }
 
-    go : Dec (windowStart J j ≡ u) → Dec (suc u ≤ windowStart J j) → Starts J u js ⊎ (sleepCost J u js vs ≡ sleepCost J (suc u) js vs) → Starts J u (j ∷ js) ⊎ (sleepCost J u (j ∷ js) (v ∷ vs) ≡ sleepCost J (suc u) (j ∷ js) (v ∷ vs))
+    go : Dec (windowStart J j ≡ u) → Dec (suc u ≤ windowStart J j) → Starts J u js ⊎ (sleepCost J u js vs ≡ sleepCost J (suc u) js vs)
+        → Starts J u (j ∷ js) ⊎ (sleepCost J u (j ∷ js) (v ∷ vs) ≡ sleepCost J (suc u) (j ∷ js) (v ∷ vs))
     go (yes e) d ih = inl (record { job = j; inside = here refl; is = e })
     go (no n) (yes l) ih = inr (sleep-wakes J u j v js vs (omega arith) ∙ sym (sleep-wakes J (suc u) j v js vs l))
     go (no n) (no m) (inl h) = inl (more h)
@@ -80,7 +81,8 @@ module _ (J : Jobs) (js vs : List ℕ) where
     each : (k : ℕ) → Among k ks → low ≤ suc (windowStart J k) → Leads r (suc (windowStart J k))
     within : (h : ℕ) → s ≤ h → ((k : ℕ) → Among k ks → windowStart J k < h) → r ≤ h
 
-  chosen-takes : (low s k : ℕ) (ks : List ℕ) (r : ℕ) → takes J js vs low s k ≡ true → Chosen low (suc (windowStart J k)) ks r → Chosen low s (k ∷ ks) r
+  chosen-takes : (low s k : ℕ) (ks : List ℕ) (r : ℕ) → takes J js vs low s k ≡ true → Chosen low (suc (windowStart J k)) ks r
+      → Chosen low s (k ∷ ks) r
   chosen-takes low s k ks r e c = record {
     from = λ l. c .from (leb-true low (suc (windowStart J k)) (both .0));
     start = leads-on r (suc (windowStart J k)) s (c .start) (beats-leads (suc (windowStart J k)) s (both .1));
@@ -100,10 +102,12 @@ module _ (J : Jobs) (js vs : List ℕ) where
   }
     where
       behind : low ≤ suc (windowStart J k) → Leads r (suc (windowStart J k))
-      behind l = leads-on r s (suc (windowStart J k)) (c .start) (stays-leads (suc (windowStart J k)) s (rw (le-leb low (suc (windowStart J k)) l) at e))
+      behind l =
+          leads-on r s (suc (windowStart J k)) (c .start) (stays-leads (suc (windowStart J k)) s (rw (le-leb low (suc (windowStart J k)) l) at e))
 
   chosen : (low s : ℕ) (ks : List ℕ) → Chosen low s ks (runEnd J js vs low s ks)
-  chosen low s [] = rw (run-end-none J js vs low s) (record { from = λ l. l; start = leads-self s; each = λ k m. absurd (nowhere m); within = λ h l f. l })
+  chosen low s [] =
+      rw (run-end-none J js vs low s) (record { from = λ l. l; start = leads-self s; each = λ k m. absurd (nowhere m); within = λ h l f. l })
   chosen low s (k ∷ ks) =
       by-bool (takes J js vs low s k)
       (λ e. rw (run-end-takes J js vs low s k ks e) (chosen-takes low s k ks _ e (chosen low (suc (windowStart J k)) ks)))
@@ -118,8 +122,11 @@ module _ (J : Jobs) (js vs : List ℕ) where
       up : suc (low + k) ≡ u
       up = omega arith
 
-      go : Starts J (low + k) js ⊎ (sleepCost J (low + k) js vs ≡ sleepCost J (suc (low + k)) js vs) → Leads (runEnd J js vs low low js) (low + k) → Leads (runEnd J js vs low low js) u
-      go (inl h) ih = let z : suc (windowStart J (h .job)) ≡ u = omega (arith, h .is) in rw (← z) (chosen low low js .each (h .job) (h .inside) (omega (arith, h .is)))
+      go : Starts J (low + k) js ⊎ (sleepCost J (low + k) js vs ≡ sleepCost J (suc (low + k)) js vs) → Leads (runEnd J js vs low low js) (low + k)
+          → Leads (runEnd J js vs low low js) u
+      go (inl h) ih =
+          let z : suc (windowStart J (h .job)) ≡ u = omega (arith, h .is) in
+          rw (← z) (chosen low low js .each (h .job) (h .inside) (omega (arith, h .is)))
       go (inr q) ih = rw (← up) (record { le = omega (arith, ih .le); tie = λ l. omega (arith, ih .le) })
 
   pub run-end-from : (low : ℕ) → low ≤ runEnd J js vs low low js

@@ -9,7 +9,7 @@ use lib.Dec.{leb}
 use borrow.Author.Tests.{le-leb, lt-leb}
 use Rattle.sched.specs.Jobs.{Jobs}
 use Rattle.skeleton.specs.Windows.{windowStart, windowEnd}
-use Rattle.skeleton.specs.Runs.{Run, sleepCost, beats, runEnd, endAfter, values, runsOf, spread}
+use Rattle.skeleton.specs.Runs.{sleepCost, takes, runEnd, endAfter, valueAt, values, Run, runAt, runsOf, spread}
 
 module _ (J : Jobs) where
   -- the job to wake for
@@ -32,29 +32,23 @@ module _ (J : Jobs) where
   unfolding runEnd
   run-end-none js vs low s = refl
 
-  -- whether the slot behind the start of job k's window is taken in place of s
-  abbrev pub takes : List ℕ → List ℕ → ℕ → ℕ → ℕ → Bool
-  takes js vs low s k = leb low (suc (windowStart J k)) && beats J js vs (suc (windowStart J k)) s
-
-  pub run-end-takes : (js vs : List ℕ) (low s k : ℕ) (ks : List ℕ) → takes js vs low s k ≡ true → runEnd J js vs low s (k ∷ ks) ≡ runEnd J js vs low (suc (windowStart J k)) ks
+  pub run-end-takes : (js vs : List ℕ) (low s k : ℕ) (ks : List ℕ) → takes J js vs low s k ≡ true
+      → runEnd J js vs low s (k ∷ ks) ≡ runEnd J js vs low (suc (windowStart J k)) ks
   unfolding runEnd
   run-end-takes js vs low s k ks e = rw (e, runEnd)
 
-  pub run-end-keeps : (js vs : List ℕ) (low s k : ℕ) (ks : List ℕ) → takes js vs low s k ≡ false → runEnd J js vs low s (k ∷ ks) ≡ runEnd J js vs low s ks
+  pub run-end-keeps : (js vs : List ℕ) (low s k : ℕ) (ks : List ℕ) → takes J js vs low s k ≡ false
+      → runEnd J js vs low s (k ∷ ks) ≡ runEnd J js vs low s ks
   unfolding runEnd
   run-end-keeps js vs low s k ks e = rw (e, runEnd)
 
   -- the numbers
 
-  -- that of a job whose window ends in slot t, from those of the jobs behind
-  abbrev pub valueAt : ℕ → List ℕ → List ℕ → ℕ
-  valueAt t js vs = endAfter J js vs t - t + sleepCost J (endAfter J js vs t) js vs
-
   pub values-none : values J [] ≡ []
   unfolding values
   values-none = refl
 
-  pub values-first : (j : ℕ) (js : List ℕ) → values J (j ∷ js) ≡ valueAt (windowEnd J j) js (values J js) ∷ values J js
+  pub values-first : (j : ℕ) (js : List ℕ) → values J (j ∷ js) ≡ valueAt J (windowEnd J j) js (values J js) ∷ values J js
   unfolding values
   values-first j js = refl
 
@@ -68,11 +62,8 @@ module _ (J : Jobs) where
   unfolding runsOf
   runs-none s vs = refl
 
-  -- the run that begins in slot t
-  abbrev pub runAt : ℕ → List ℕ → List ℕ → Run
-  runAt t js vs = record { first = t; slots = endAfter J js vs t - t }
-
-  pub runs-begin : (s j v : ℕ) (js vs : List ℕ) → s ≤ windowStart J j → runsOf J s (j ∷ js) (v ∷ vs) ≡ runAt (windowEnd J j) js vs ∷ runsOf J (endAfter J js vs (windowEnd J j)) js vs
+  pub runs-begin : (s j v : ℕ) (js vs : List ℕ) → s ≤ windowStart J j
+      → runsOf J s (j ∷ js) (v ∷ vs) ≡ runAt J (windowEnd J j) js vs ∷ runsOf J (endAfter J js vs (windowEnd J j)) js vs
   unfolding runsOf
   runs-begin s j v js vs l = rw (le-leb _ _ l, runsOf)
 
@@ -87,7 +78,8 @@ unfolding spread
 spread-none h t = refl
 
 -- a run from e up to u without it
-pub spread-run : (h t e u : ℕ) (rs : List Run) → e < u → spread h t (record { first = e; slots = u - e } ∷ rs) ≡ replicate (e - t) false ++ (true ∷ (replicate (u - suc e) true ++ spread h u rs))
+pub spread-run : (h t e u : ℕ) (rs : List Run) → e < u
+    → spread h t (record { first = e; slots = u - e } ∷ rs) ≡ replicate (e - t) false ++ (true ∷ (replicate (u - suc e) true ++ spread h u rs))
 unfolding spread
 spread-run h t e u rs l =
     let n : u - e ≡ suc (u - suc e) = omega arith in

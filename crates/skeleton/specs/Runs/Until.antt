@@ -48,12 +48,14 @@ module _ (due : ℕ → ℕ → Bool) (q h : ℕ) where
     equal : t + awakeAt t ≡ at + asleepAt at
 
   attained : (k t : ℕ) → t + k ≡ h → Attained t
-  attained zero t e = let z : t ≡ h = omega arith in record { at = t; after = omega arith; inside = omega arith; equal = rw z (ap (λ (n : ℕ). h + n) awake-end) }
+  attained zero t e =
+      let z : t ≡ h = omega arith in record { at = t; after = omega arith; inside = omega arith; equal = rw z (ap (λ (n : ℕ). h + n) awake-end) }
   attained (suc k) t e = go (decLe (asleepAt t) (suc (awakeAt (suc t)))) (attained k (suc t) (omega arith))
     where
       go : Dec (asleepAt t ≤ suc (awakeAt (suc t))) → Attained (suc t) → Attained t
       go (yes l) a = record { at = t; after = omega arith; inside = omega arith; equal = omega (arith, awake-step t (omega arith)) }
-      go (no n) a = record { at = a .at; after = omega (arith, a .after); inside = a .inside; equal = omega (arith, awake-step t (omega arith), a .equal) }
+      go (no n) a =
+          record { at = a .at; after = omega (arith, a .after); inside = a .inside; equal = omega (arith, awake-step t (omega arith), a .equal) }
 
   pub until-cost : (t s : ℕ) → Until t s → t + awakeAt t ≡ s + asleepAt s
   until-cost t s w =
@@ -68,7 +70,8 @@ module _ (due : ℕ → ℕ → Bool) (q h : ℕ) where
       (λ e. built-due due q (h - suc t) true t t e ∙ sym (built-due due q (h - suc t) false t t e))
       (λ e. built-ends due q (h - suc t) t t e (rw (left t l) at le) ∙ sym (built-sleeps due q (h - suc t) t t e)))
 
-  built-stays : (t : ℕ) → t < h → suc (awakeAt (suc t)) < asleepAt t → built due q (h - t) true t t ≡ true ∷ built due q (h - suc t) true (suc t) (suc t)
+  built-stays : (t : ℕ) → t < h → suc (awakeAt (suc t)) < asleepAt t
+      → built due q (h - t) true t t ≡ true ∷ built due q (h - suc t) true (suc t) (suc t)
   built-stays t l lt = rw (left t l) (by-bool (due t t)
       (λ e. built-due due q (h - suc t) true t t e)
       (λ e. built-goes-on due q (h - suc t) t t e (rw (left t l) at lt)))
@@ -82,22 +85,34 @@ module _ (due : ℕ → ℕ → Bool) (q h : ℕ) where
     where
       go : Dec (h ≤ t) → built due q (h - t) true t t ≡ built due q (h - t) false t t
       go (yes l) = let z : t ≡ h = omega (arith, w .within) in rw z built-over
-      go (no n) = let z : t ≡ s = omega arith in built-rests t (omega arith) (omega (arith, until-cost t s w, awake-step t (omega arith), ap asleepAt z))
+      go (no n) =
+          let z : t ≡ s = omega arith in built-rests t (omega arith) (omega (arith, until-cost t s w, awake-step t (omega arith), ap asleepAt z))
   until-built (suc k) t s e w =
-      built-stays t (omega (arith, w .within)) (omega (arith, until-cost t s w, awake-step t (omega (arith, w .within)), w .first t (omega arith) (omega arith)))
-      ∙ ap (λ (S : List Bool). true ∷ S) (until-built k (suc t) s (omega arith) (record { from = omega arith; within = w .within; best = λ u l. w .best u (omega arith); first = λ u l. w .first u (omega arith) }))
+      let l : t < h = omega (arith, w .within) in
+      built-stays t l (omega (arith, until-cost t s w, awake-step t l, w .first t (omega arith) (omega arith)))
+      ∙ ap (λ (S : List Bool). true ∷ S) (until-built k (suc t) s (omega arith) later)
+    where
+      later : Until (suc t) s
+      later =
+          record { from = omega arith; within = w .within; best = λ u l. w .best u (omega arith); first = λ u l. w .first u (omega arith) }
 
   -- asleep until the first slot at which a window is due
 
-  pub least-waits : (k t c e : ℕ) → t + k ≡ e → e ≤ h → ((u : ℕ) → t ≤ u → u < e → due c u ≡ false) → least due q (h - t) false t c ≡ least due q (h - e) false e c
+  pub least-waits : (k t c e : ℕ) → t + k ≡ e → e ≤ h → ((u : ℕ) → t ≤ u → u < e → due c u ≡ false)
+      → least due q (h - t) false t c ≡ least due q (h - e) false e c
   least-waits zero t c e z l none = let y : t ≡ e = omega arith in rw y
   least-waits (suc k) t c e z l none =
-      rw (left t (omega arith)) (least-sleeps due q (h - suc t) t c (none t (omega arith) (omega arith)) ∙ least-waits k (suc t) c e (omega arith) l (λ u a b. none u (omega arith) b))
+      rw (left t (omega arith))
+      (least-sleeps due q (h - suc t) t c (none t (omega arith) (omega arith))
+      ∙ least-waits k (suc t) c e (omega arith) l (λ u a b. none u (omega arith) b))
 
-  pub built-waits : (k t c e : ℕ) → t + k ≡ e → e ≤ h → ((u : ℕ) → t ≤ u → u < e → due c u ≡ false) → built due q (h - t) false t c ≡ replicate k false ++ built due q (h - e) false e c
+  pub built-waits : (k t c e : ℕ) → t + k ≡ e → e ≤ h → ((u : ℕ) → t ≤ u → u < e → due c u ≡ false)
+      → built due q (h - t) false t c ≡ replicate k false ++ built due q (h - e) false e c
   built-waits zero t c e z l none = let y : t ≡ e = omega arith in rw y
   built-waits (suc k) t c e z l none =
-      rw (left t (omega arith)) (built-sleeps due q (h - suc t) t c (none t (omega arith) (omega arith)) ∙ ap (λ (S : List Bool). false ∷ S) (built-waits k (suc t) c e (omega arith) l (λ u a b. none u (omega arith) b)))
+      rw (left t (omega arith))
+      (built-sleeps due q (h - suc t) t c (none t (omega arith) (omega arith))
+      ∙ ap (λ (S : List Bool). false ∷ S) (built-waits k (suc t) c e (omega arith) l (λ u a b. none u (omega arith) b)))
 
   pub least-wakes : (e c : ℕ) → e < h → due c e ≡ true → least due q (h - e) false e c ≡ q + suc (awakeAt (suc e))
   least-wakes e c l d = rw (left e l) (least-due due q (h - suc e) e c d)

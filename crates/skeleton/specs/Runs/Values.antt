@@ -12,9 +12,9 @@ use Rattle.sched.specs.Bounded.Laws.{by-bool}
 use Rattle.skeleton.specs.Windows.{windowStart, windowEnd, due}
 use Rattle.skeleton.specs.Windows.Laws.{Due, due-job, job-due, window-opens, window-within}
 use Rattle.skeleton.specs.Order.Laws.{Rest, rest-next}
-use Rattle.skeleton.specs.Runs.{sleepCost, runEnd, endAfter, values}
+use Rattle.skeleton.specs.Runs.{sleepCost, runEnd, endAfter, values, valueAt}
 use Rattle.skeleton.specs.Runs.Until.{asleepAt, awakeAt, Until, until-cost, least-waits, least-wakes, least-over}
-use Rattle.skeleton.specs.Runs.Clauses.{sleep-none, sleep-wakes, sleep-skips, valueAt, values-first}
+use Rattle.skeleton.specs.Runs.Clauses.{sleep-none, sleep-wakes, sleep-skips, values-first}
 use Rattle.skeleton.specs.Runs.Choice.{run-end-leads, run-end-from, run-end-within}
 
 -- every window that starts at s or later belongs to a job of js
@@ -44,7 +44,11 @@ module _ (J : Jobs) (p : Passes J) where
   none-due s u j js r o l = by-bool (due J s u) (λ e. absurd (go (due-job J s u e))) (λ e. e)
     where
       go : Due J s u → ⊥
-      go d = ⊎-elim (λ (q : d .job ≡ j). omega (arith, d .closes, ap (windowEnd J) q)) (λ (i : Among (d .job) js). omega (arith, d .closes, r .rising .0 (d .job) i)) (apart (o (d .job) (d .listed) (d .opens)))
+      go d =
+          ⊎-elim
+          (λ (q : d .job ≡ j). omega (arith, d .closes, ap (windowEnd J) q))
+          (λ (i : Among (d .job) js). omega (arith, d .closes, r .rising .0 (d .job) i))
+          (apart (o (d .job) (d .listed) (d .opens)))
 
   pub never-due : (s u : ℕ) → Holds J s [] → due J s u ≡ false
   never-due s u o = by-bool (due J s u) (λ e. let d = due-job J s u e in absurd (nowhere (o (d .job) (d .listed) (d .opens)))) (λ e. e)
@@ -62,48 +66,70 @@ module _ (J : Jobs) (p : Passes J) where
   Right : List ℕ → List ℕ → Type 0
   Right js vs = (s : ℕ) → s ≤ J .horizon → Holds J s js → sleepCost J s js vs ≡ Z s
 
-  until-right : (js vs : List ℕ) (low : ℕ) → Rest J js → Right js vs → low ≤ J .horizon → Holds J low js → Until (due J) (J .wake) (J .horizon) low (runEnd J js vs low low js)
+  until-right : (js vs : List ℕ) (low : ℕ) → Rest J js → Right js vs → low ≤ J .horizon → Holds J low js
+      → Until (due J) (J .wake) (J .horizon) low (runEnd J js vs low low js)
   unfolding Right
   until-right js vs low r right l o =
       let e = runEnd J js vs low low js in
       let f = run-end-from J js vs low in
       let w = run-end-inside js vs low (r .listed) l in
+      let found = right e w (holds-later J low e js f o) in
       record {
         from = f;
         within = w;
-        best = λ u a b. omega (arith, right e w (holds-later J low e js f o), right u b (holds-later J low u js a o), run-end-leads J js vs low (u - low) u (omega arith) .le);
-        first = λ u a b. omega (arith, right e w (holds-later J low e js f o), right u (omega arith) (holds-later J low u js a o), run-end-leads J js vs low (u - low) u (omega arith) .tie b);
+        best = λ u a b. omega (arith, found, right u b (holds-later J low u js a o), run-end-leads J js vs low (u - low) u (omega arith) .le);
+        first = λ u a b.
+            omega (arith, found, right u (omega arith) (holds-later J low u js a o), run-end-leads J js vs low (u - low) u (omega arith) .tie b);
       }
 
-  -- the number of the first job of js, from right numbers of those behind
-  value-right : (j : ℕ) (js vs : List ℕ) → Rest J (j ∷ js) → Right js vs → valueAt J (windowEnd J j) js vs ≡ suc (awakeAt (due J) (J .wake) (J .horizon) (suc (windowEnd J j)))
+  -- the cost from an awake slot t on, from right numbers of the jobs behind
+  value-right : (t : ℕ) (js vs : List ℕ) → Rest J js → Right js vs → t < J .horizon → Holds J (suc t) js
+      → valueAt J t js vs ≡ suc (awakeAt (due J) (J .wake) (J .horizon) (suc t))
   unfolding Right
-  value-right j js vs r right =
-      let e = windowEnd J j in
-      let w = until-right js vs (suc e) (rest-next J j js r) right (window-within J p j) (holds-behind (suc e) j js r (omega arith)) in
-      let s = endAfter J js vs e in
-      omega (arith, until-cost (due J) (J .wake) (J .horizon) (suc e) s w, right s (w .within) (holds-behind s j js r (w .from)), w .from)
+  value-right t js vs r right l o =
+      let w = until-right js vs (suc t) r right l o in
+      let s = endAfter J js vs t in
+      omega (arith, until-cost (due J) (J .wake) (J .horizon) (suc t) s w, right s (w .within) (holds-later J (suc t) s js (w .from) o), w .from)
 
   -- sleep that begins at s goes on until the window of the first job that starts at s or later
-  wait-cost : (s j : ℕ) (js : List ℕ) → Rest J (j ∷ js) → Holds J s (j ∷ js) → s ≤ windowStart J j → Z s ≡ J .wake + suc (awakeAt (due J) (J .wake) (J .horizon) (suc (windowEnd J j)))
+  wait-cost : (s j : ℕ) (js : List ℕ) → Rest J (j ∷ js) → Holds J s (j ∷ js) → s ≤ windowStart J j
+      → Z s ≡ J .wake + suc (awakeAt (due J) (J .wake) (J .horizon) (suc (windowEnd J j)))
   wait-cost s j js r o l =
       let e = windowEnd J j in
       let h = window-within J p j in
-      least-waits (due J) (J .wake) (J .horizon) (e - s) s s e (omega (arith, window-opens J p j (r .listed j (here refl)))) (omega arith) (λ u a b. none-due s u j js r o b)
+      least-waits (due J) (J .wake) (J .horizon) (e - s) s s e
+      (omega (arith, window-opens J p j (r .listed j (here refl)))) (omega arith)
+      (λ u a b. none-due s u j js r o b)
       ∙ least-wakes (due J) (J .wake) (J .horizon) e s h (first-due s j js r l)
 
   pub values-right : (js : List ℕ) → Rest J js → (s : ℕ) → s ≤ J .horizon → Holds J s js → sleepCost J s js (values J js) ≡ Z s
   unfolding Right
   values-right [] r s l o =
       sleep-none J s (values J [])
-      ∙ sym (least-waits (due J) (J .wake) (J .horizon) (J .horizon - s) s s (J .horizon) (omega arith) (omega arith) (λ u a b. never-due s u o) ∙ least-over (due J) (J .wake) (J .horizon) s)
+      ∙ sym (least-over (due J) (J .wake) (J .horizon) s)
+      ∙ sym (least-waits (due J) (J .wake) (J .horizon) (J .horizon - s) s s (J .horizon) (omega arith) (omega arith) (λ u a b. never-due s u o))
   values-right (j ∷ js) r s l o = go (decLe s (windowStart J j)) (values-right js (rest-next J j js r))
     where
+      behind : Holds J (suc (windowEnd J j)) js
+      behind = holds-behind (suc (windowEnd J j)) j js r (omega arith)
+
       go : Dec (s ≤ windowStart J j) → Right js (values J js) → sleepCost J s (j ∷ js) (values J (j ∷ js)) ≡ Z s
-      go (yes m) right = rw (values-first J j js) (sleep-wakes J s j _ js (values J js) m ∙ ap (λ (n : ℕ). J .wake + n) (value-right j js (values J js) r right) ∙ sym (wait-cost s j js r o m))
-      go (no n) right = rw (values-first J j js) (sleep-skips J s j _ js (values J js) (omega arith) ∙ right s l (holds-skips J s j js (omega arith) o))
+      go (yes m) right =
+          rw (values-first J j js)
+          (sleep-wakes J s j _ js (values J js) m
+          ∙ ap (λ (n : ℕ). J .wake + n) (value-right (windowEnd J j) js (values J js) (rest-next J j js r) right (window-within J p j) behind)
+          ∙ sym (wait-cost s j js r o m))
+      go (no n) right =
+          rw (values-first J j js) (sleep-skips J s j _ js (values J js) (omega arith) ∙ right s l (holds-skips J s j js (omega arith) o))
 
   -- the best end of a run, by those numbers
-  pub run-end-right : (js : List ℕ) (low : ℕ) → Rest J js → low ≤ J .horizon → Holds J low js → Until (due J) (J .wake) (J .horizon) low (runEnd J js (values J js) low low js)
+  pub run-end-right : (js : List ℕ) (low : ℕ) → Rest J js → low ≤ J .horizon → Holds J low js
+      → Until (due J) (J .wake) (J .horizon) low (runEnd J js (values J js) low low js)
   unfolding Right
   run-end-right js low r l o = until-right js (values J js) low r (values-right js r) l o
+
+  -- the cost from any awake slot on, by those numbers
+  pub awake-right : (js : List ℕ) (t : ℕ) → Rest J js → t < J .horizon → Holds J (suc t) js
+      → valueAt J t js (values J js) ≡ suc (awakeAt (due J) (J .wake) (J .horizon) (suc t))
+  unfolding Right
+  awake-right js t r l o = value-right t js (values J js) r (values-right js r) l o
