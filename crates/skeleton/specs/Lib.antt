@@ -7,3 +7,5 @@ pub mod Order
 pub mod Runs
 pub mod Cases
 pub mod Theorems
+pub mod Waking
+pub mod Rival

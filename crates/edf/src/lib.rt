@@ -1,0 +1,1 @@
+// Earliest deadline first: what it serves, and which slots help it. Theory only, in specs/.
