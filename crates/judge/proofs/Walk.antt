@@ -55,6 +55,7 @@ spent-same n r d t byte a b e = by-bool (ltb byte n) (λ y. job y) (λ y. other 
   where
     job : ltb byte n ≡ true → slotFault n r d t byte a ≡ slotFault n r d t byte b
     job y = ap (slotFault n r d t byte) (e (ltb-true byte n y))
+
     other : ltb byte n ≡ false → slotFault n r d t byte a ≡ slotFault n r d t byte b
     other y = simp y
 

@@ -6,7 +6,6 @@ ghost use lib.Dec.{leb};
 ghost use Rattle.sched.specs.Jobs.{Jobs};
 ghost use Rattle.judge.specs.Faults.{Sized, slotFault, rareFrom, tableCheck};
 ghost use Rattle.judge.specs.Verdict.{lent, figuresOf, judgedTable, Judges};
-
 use sched::Checked;
 use sched::Figures;
 use sched::Refusal;
@@ -17,7 +16,14 @@ pub enum Judged {
 }
 
 // The faults of one slot in their order; named counts what earlier slots named.
-fn check_slot(t: usize, byte: u8, releases: &[u16], deadlines: &[u16], volumes: &[u16], named: &[u16; 64]) -> Checked
+fn check_slot(
+    t: usize,
+    byte: u8,
+    releases: &[u16],
+    deadlines: &[u16],
+    volumes: &[u16],
+    named: &[u16; 64],
+) -> Checked
     requires { ⌜ Sized (now releases) (now deadlines) (now volumes) ⌝ }
     ensures { λ c. ⌜ c ≡ slotFault (length (now (releases .entry))) (getD (now (releases .entry)) byte 0) (getD (now (deadlines .entry)) byte 0) t byte (leb (getD (now (volumes .entry)) byte 0) (getD (now (named .entry)) byte 0)) ⌝ }
 {
@@ -116,7 +122,14 @@ fn figures(q: u16, table: &[u8]) -> Figures
 }
 
 // What is left to do for a list that has passed its checks.
-fn judge_table(h: u16, q: u16, releases: &[u16], deadlines: &[u16], volumes: &[u16], table: &[u8]) -> Judged
+fn judge_table(
+    h: u16,
+    q: u16,
+    releases: &[u16],
+    deadlines: &[u16],
+    volumes: &[u16],
+    table: &[u8],
+) -> Judged
     requires { ⌜ Sized (now releases) (now deadlines) (now volumes) × (h ≤ 4096) ⌝ }
     ensures { λ r. ⌜ r ≡ judgedTable (lent h q (now (releases .entry)) (now (deadlines .entry)) (now (volumes .entry))) (now (table .entry)) ⌝ }
 {
@@ -132,7 +145,14 @@ fn judge_table(h: u16, q: u16, releases: &[u16], deadlines: &[u16], volumes: &[u
 }
 
 // Energy, awake slots and runs of the first h bytes of the table, or the first fault.
-pub fn judge(h: u16, q: u16, releases: &[u16], deadlines: &[u16], volumes: &[u16], table: &[u8]) -> Judged
+pub fn judge(
+    h: u16,
+    q: u16,
+    releases: &[u16],
+    deadlines: &[u16],
+    volumes: &[u16],
+    table: &[u8],
+) -> Judged
     ensures { λ r. ⌜ Judges (lent h q (now (releases .entry)) (now (deadlines .entry)) (now (volumes .entry))) (now (table .entry)) r ⌝ }
 {
     match sched::check_list(h, releases, deadlines, volumes) {

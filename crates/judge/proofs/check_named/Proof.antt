@@ -8,8 +8,6 @@ use Rattle.judge.specs.Faults.{rareFrom}
 use Rattle.judge.proofs.Walk.{rare-next, rare-stop, rare-end}
 use Rattle.judge.proofs.check_named.Statement.{statement}
 use Rattle.judge.proofs.check_named.Tie as tie
-use Rattle.judge.proofs.check_named.Reads as reads
-use Rattle.judge.proofs.check_named.Lts as lts
 
 abbrev Inv-loop : tie.InvT-loop
 Inv-loop volumes named j₀ j = (j ≤ length volumes) × (rareFrom (length volumes) 0 (λ i. getD named i 0) volumes ≡ rareFrom (length volumes - j) j (λ i. getD named i 0) volumes)
@@ -17,43 +15,33 @@ Inv-loop volumes named j₀ j = (j ≤ length volumes) × (rareFrom (length volu
 abbrev μ-loop : tie.MeasureT-loop
 μ-loop volumes named j₀ j = length volumes - j
 
--- src/lib.rt:52:5
 loop-holds : tie.Need-loop-holds Inv-loop μ-loop
 loop-holds c = (search needs, simp sub-zero)
 
--- src/lib.rt:53:12
 mul-if1 : tie.Need-mul-if1 Inv-loop μ-loop
 mul-if1 c = search needs
 
--- src/lib.rt:53:12
 element-copy-out-if1 : tie.Need-element-copy-out-if1 Inv-loop μ-loop
 element-copy-out-if1 c = search needs
 
--- src/lib.rt:53:23
 mul-if1-2 : tie.Need-mul-if1-2 Inv-loop μ-loop
 mul-if1-2 c = search needs
 
--- src/lib.rt:53:23
 shared-slice-read-if1 : tie.Need-shared-slice-read-if1 Inv-loop μ-loop
 shared-slice-read-if1 c = search needs
 
--- src/lib.rt:54:13
 returns : tie.Need-returns Inv-loop μ-loop
 returns c = rare-stop _ _ _ _ _ (c .before .before .before .before .loop .inv .1) (c .before .before .before .loop-test .taken) (c .if1 .taken)
 
--- src/lib.rt:56:9
 add-j : tie.Need-add-j Inv-loop μ-loop
 add-j c = search needs
 
--- src/lib.rt:52:5
 loop-less : tie.Need-loop-less Inv-loop μ-loop
 loop-less c = search needs
 
--- src/lib.rt:52:5
 loop-again : tie.Need-loop-again Inv-loop μ-loop
 loop-again c = (search needs, rare-next _ _ _ _ _ (c .before .before .before .before .loop .inv .1) (c .before .before .before .loop-test .taken) (c .if1 .left))
 
--- src/lib.rt:47:1
 returns-2 : tie.Need-returns-2 Inv-loop μ-loop
 returns-2 c = rare-end _ _ _ _ _ (c .before .loop .inv .1) (c .loop-test .left)
 

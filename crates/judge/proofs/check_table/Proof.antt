@@ -7,10 +7,6 @@ use lib.ListN.{length, getD}
 use Rattle.judge.proofs.Walk.{Walk, walk-start, walk-job, walk-other, walk-stop, walk-fits, walk-end}
 use Rattle.judge.proofs.check_table.Statement.{statement}
 use Rattle.judge.proofs.check_table.Tie as tie
-use Rattle.judge.proofs.check_table.Reads as reads
-use Rattle.judge.proofs.check_table.Lts as lts
-use Rattle.judge.proofs.check_named.Reads as check-named-reads
-use Rattle.judge.proofs.check_slot.Reads as check-slot-reads
 
 abbrev Inv-loop : tie.InvT-loop
 Inv-loop releases deadlines volumes table named₀ t₀ named t = Walk releases deadlines volumes table named t
@@ -18,79 +14,60 @@ Inv-loop releases deadlines volumes table named₀ t₀ named t = Walk releases 
 abbrev μ-loop : tie.MeasureT-loop
 μ-loop releases deadlines volumes table named₀ t₀ named t = length table - t
 
--- src/lib.rt:68:5
 loop-holds : tie.Need-loop-holds Inv-loop μ-loop
 loop-holds c = walk-start _ _ _ _ (c .before .before .before .before .pre)
 
--- src/lib.rt:69:20
 shared-slice-read-byte : tie.Need-shared-slice-read-byte Inv-loop μ-loop
 shared-slice-read-byte c = search needs
 
--- src/lib.rt:70:15
 check-slot-requires : tie.Need-check-slot-requires Inv-loop μ-loop
 check-slot-requires c κs = search needs
 
--- src/lib.rt:72:27
 enum-told : tie.Need-enum-told Inv-loop μ-loop
 enum-told c = search needs
 
--- src/lib.rt:72:27
 cast-job : tie.Need-cast-job Inv-loop μ-loop
 cast-job c = omega (arith, c .before .before .before .before .shared-slice-known5 .given (c .before .before .before .before .before .before .loop .t))
 
--- src/lib.rt:74:21
 mul-named : tie.Need-mul-named Inv-loop μ-loop
 mul-named c = search needs
 
--- src/lib.rt:74:21
 array-read-named : tie.Need-array-read-named Inv-loop μ-loop
 array-read-named c = search needs
 
--- src/lib.rt:74:21
 add-named : tie.Need-add-named Inv-loop μ-loop
 add-named c = omega (arith, walk-fits _ _ _ _ _ _ (c .before .before .before .before .before .before .before .loop .inv) (c .if1 .taken) (sym (c .before .before .before .check-slot .ensures) ∙ c .before .enum-told .given .1), c .before .before .before .before .before .before .before .before .before .shared-slice-known3 .given (getD (c .before .before .before .before .before .before .before .before .before .before .before .before .args .table .now) (c .before .before .before .before .before .before .before .loop .t) 0))
 
--- src/lib.rt:74:21
 array-write-named : tie.Need-array-write-named Inv-loop μ-loop
 array-write-named c = search needs
 
--- src/lib.rt:75:21
 add-t : tie.Need-add-t Inv-loop μ-loop
 add-t c = search needs
 
--- src/lib.rt:68:5
 loop-less : tie.Need-loop-less Inv-loop μ-loop
 loop-less c = search needs
 
--- src/lib.rt:68:5
 loop-again : tie.Need-loop-again Inv-loop μ-loop
 loop-again c = walk-job _ _ _ _ _ _ (c .before .before .before .before .before .before .before .loop .inv) (c .before .before .before .before .before .before .before .before .before .before .before .before .pre) (c .before .before .before .before .before .before .loop-test .taken) (c .if1 .taken) (sym (c .before .before .before .check-slot .ensures) ∙ c .before .enum-told .given .1)
 
--- src/lib.rt:77:21
 add-t-2 : tie.Need-add-t-2 Inv-loop μ-loop
 add-t-2 c = search needs
 
--- src/lib.rt:68:5
 loop-less-2 : tie.Need-loop-less-2 Inv-loop μ-loop
 loop-less-2 c = search needs
 
--- src/lib.rt:68:5
 loop-again-2 : tie.Need-loop-again-2 Inv-loop μ-loop
 loop-again-2 c = walk-other _ _ _ _ _ _ (c .before .before .before .before .before .before .before .loop .inv) (c .before .before .before .before .before .before .loop-test .taken) (c .if1 .left) (sym (c .before .before .before .check-slot .ensures) ∙ c .before .enum-told .given .1)
 
--- src/lib.rt:80:30
 enum-known-r : tie.Need-enum-known-r Inv-loop μ-loop
 enum-known-r c = search needs
 
--- src/lib.rt:81:17
 returns : tie.Need-returns Inv-loop μ-loop
 returns c = walk-stop _ _ _ _ _ _ (c .before .before .before .before .before .before .before .loop .inv) _ (c .before .before .before .before .before .before .loop-test .taken) (sym (c .before .before .before .check-slot .ensures) ∙ c .before .r .given .1)
 
--- src/lib.rt:85:5
 check-named-requires : tie.Need-check-named-requires Inv-loop μ-loop
 check-named-requires c κs = search needs
 
--- src/lib.rt:62:1
 returns-2 : tie.Need-returns-2 Inv-loop μ-loop
 returns-2 c = c .check-named .ensures ∙ walk-end _ _ _ _ _ _ (c .before .before .before .loop .inv) (c .before .before .before .before .before .before .before .before .pre) (c .before .before .loop-test .left)
 

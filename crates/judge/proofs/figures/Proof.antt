@@ -6,8 +6,6 @@ use lib.ListN.{length}
 use Rattle.judge.proofs.Tally.{Tally, tally-start, tally-asleep, tally-goes-on, tally-begins, tally-awake-few, tally-runs-few, tally-end, cost-fits, figures-are}
 use Rattle.judge.proofs.figures.Statement.{statement}
 use Rattle.judge.proofs.figures.Tie as tie
-use Rattle.judge.proofs.figures.Reads as reads
-use Rattle.judge.proofs.figures.Lts as lts
 
 abbrev Inv-loop : tie.InvT-loop
 Inv-loop q table awake₀ runs₀ on₀ t₀ awake runs on t = Tally table awake runs on t
@@ -15,71 +13,54 @@ Inv-loop q table awake₀ runs₀ on₀ t₀ awake runs on t = Tally table awake
 abbrev μ-loop : tie.MeasureT-loop
 μ-loop q table awake₀ runs₀ on₀ t₀ awake runs on t = length table - t
 
--- src/lib.rt:97:5
 loop-holds : tie.Need-loop-holds Inv-loop μ-loop
 loop-holds c = tally-start _
 
--- src/lib.rt:98:12
 shared-slice-read-if1 : tie.Need-shared-slice-read-if1 Inv-loop μ-loop
 shared-slice-read-if1 c = search needs
 
--- src/lib.rt:100:13
 add-t : tie.Need-add-t Inv-loop μ-loop
 add-t c = search needs
 
--- src/lib.rt:97:5
 loop-less : tie.Need-loop-less Inv-loop μ-loop
 loop-less c = search needs
 
--- src/lib.rt:97:5
 loop-again : tie.Need-loop-again Inv-loop μ-loop
 loop-again c = tally-asleep _ _ _ _ _ (c .before .before .before .loop .inv) (c .before .before .loop-test .taken) (c .if1 .taken)
 
--- src/lib.rt:102:13
 add-awake : tie.Need-add-awake Inv-loop μ-loop
 add-awake c = omega (arith, tally-awake-few _ _ _ _ _ (c .before .before .before .before .loop .inv) (c .before .before .before .before .before .pre))
 
--- src/lib.rt:103:13
 add-t-2 : tie.Need-add-t-2 Inv-loop μ-loop
 add-t-2 c = search needs
 
--- src/lib.rt:97:5
 loop-less-2 : tie.Need-loop-less-2 Inv-loop μ-loop
 loop-less-2 c = search needs
 
--- src/lib.rt:97:5
 loop-again-2 : tie.Need-loop-again-2 Inv-loop μ-loop
 loop-again-2 c = tally-goes-on _ _ _ _ _ (c .before .before .before .before .loop .inv) (c .before .before .before .loop-test .taken) (c .before .if1 .left) (c .if2 .taken)
 
--- src/lib.rt:105:13
 add-awake-2 : tie.Need-add-awake-2 Inv-loop μ-loop
 add-awake-2 c = omega (arith, tally-awake-few _ _ _ _ _ (c .before .before .before .before .loop .inv) (c .before .before .before .before .before .pre))
 
--- src/lib.rt:106:13
 add-runs : tie.Need-add-runs Inv-loop μ-loop
 add-runs c = omega (arith, tally-runs-few _ _ _ _ _ (c .before .before .before .before .loop .inv) (c .before .before .before .before .before .pre))
 
--- src/lib.rt:108:13
 add-t-3 : tie.Need-add-t-3 Inv-loop μ-loop
 add-t-3 c = search needs
 
--- src/lib.rt:97:5
 loop-less-3 : tie.Need-loop-less-3 Inv-loop μ-loop
 loop-less-3 c = search needs
 
--- src/lib.rt:97:5
 loop-again-3 : tie.Need-loop-again-3 Inv-loop μ-loop
 loop-again-3 c = tally-begins _ _ _ _ _ (c .before .before .before .before .loop .inv) (c .before .before .before .loop-test .taken) (c .before .if1 .left) (c .if2 .left)
 
--- src/lib.rt:112:25
 mul-t13 : tie.Need-mul-t13 Inv-loop μ-loop
 mul-t13 c = omega (arith, cost-fits (c .before .before .args .q) (c .before .loop .runs) (search needs) (tally-runs-few _ _ _ _ _ (c .before .loop .inv) (c .before .before .pre)))
 
--- src/lib.rt:112:17
 add-t14 : tie.Need-add-t14 Inv-loop μ-loop
 add-t14 c = omega (arith, cost-fits (c .before .before .args .q) (c .before .loop .runs) (search needs) (tally-runs-few _ _ _ _ _ (c .before .loop .inv) (c .before .before .pre)), tally-awake-few _ _ _ _ _ (c .before .loop .inv) (c .before .before .pre))
 
--- src/lib.rt:89:1
 returns : tie.Need-returns Inv-loop μ-loop
 returns c = λ J w. figures-are J (c .before .before .args .table .now) (c .before .before .args .q) (c .before .loop .awake) (c .before .loop .runs) (tally-end _ _ _ _ _ (c .before .loop .inv) (c .loop-test .left)) w
 

@@ -8,40 +8,28 @@ use Rattle.judge.specs.Verdict.Laws.{short-refused, faulty-refused, faul
 use borrow.Author.Needs.{needs}
 use Rattle.judge.proofs.judge_table.Statement.{statement}
 use Rattle.judge.proofs.judge_table.Tie as tie
-use Rattle.judge.proofs.judge_table.Reads as reads
-use Rattle.judge.proofs.judge_table.Lts as lts
-use Rattle.judge.proofs.check_table.Reads as check-table-reads
-use Rattle.judge.proofs.figures.Reads as figures-reads
 
--- src/lib.rt:125:9
 returns : tie.Need-returns
 returns c = short-refused _ _ (c .if1 .taken)
 
--- src/lib.rt:127:9
 slice-aggregate-slots : tie.Need-slice-aggregate-slots
 slice-aggregate-slots c = sym (length-take-le _ _ (c .before .if1 .left))
 
--- src/lib.rt:128:11
 check-table-requires : tie.Need-check-table-requires
 check-table-requires c κs = search needs
 
--- src/lib.rt:129:45
 enum-told : tie.Need-enum-told
 enum-told c = search needs
 
--- src/lib.rt:129:45
 figures-requires : tie.Need-figures-requires
 figures-requires c κs = simp length-take (omega arith)
 
--- src/lib.rt:130:26
 enum-known-r : tie.Need-enum-known-r
 enum-known-r c = search needs
 
--- src/lib.rt:119:1
 returns-2 : tie.Need-returns-2
 returns-2 c = faultless-accepted _ _ _ (c .before .before .before .before .before .if1 .left) (sym (c .before .before .before .check-table .ensures) ∙ c .before .enum-told .given .1) (c .figures .ensures (lent (c .before .before .before .before .before .before .before .before .before .before .args .h) (c .before .before .before .before .before .before .before .before .before .before .args .q) (c .before .before .before .before .before .before .before .before .before .before .args .releases .now) (c .before .before .before .before .before .before .before .before .before .before .args .deadlines .now) (c .before .before .before .before .before .before .before .before .before .before .args .volumes .now)) refl)
 
--- src/lib.rt:119:1
 returns-3 : tie.Need-returns-3
 returns-3 c = faulty-refused _ _ _ (c .before .before .before .before .before .if1 .left) (sym (c .before .before .before .check-table .ensures) ∙ c .before .r .given .1)
 

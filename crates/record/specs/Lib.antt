@@ -1,0 +1,2 @@
+-- Plan record bytes in formulas. Files named Laws hold what is proved of the definitions beside them.
+pub mod Record
