@@ -12,6 +12,7 @@ use Rattle.sched.specs.declared.Checked.{Checked}
 use Rattle.sched.specs.declared.Checked.the-variants.{Passed}
 use Rattle.sched.specs.declared.Refusal.the-variants.{BadByte, TooOften, OutOfSpan, TooRare}
 pub mod Laws
+pub mod Feasibility
 
 -- the fields belong together, and there are no more jobs than counters; a list that passes the list checks has both
 pub record Sized (rs ds ps : List ℕ) : Type 0 where

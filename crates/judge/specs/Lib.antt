@@ -4,3 +4,4 @@ pub mod Verdict
 pub mod Times
 pub mod Bounds
 pub mod Stretches
+pub mod Theorems

@@ -5,6 +5,7 @@ use mathlib.Core.Path.{_≡_}
 use mathlib.Core.Bool.{Bool, true, false}
 use mathlib.Core.List.{List, [], _∷_}
 use Rattle.sched.specs.Slots.{awake, awakeBefore}
+pub mod Laws
 
 pub record Stretch : Type 0 where
   pub first : ℕ
@@ -33,3 +34,8 @@ stretchesFrom false t (true ∷ S) = record { first = t; slots = suc (leading S)
 -- "Before slot 0 the processor sleeps."
 abbrev pub stretches : List Bool → List Stretch
 stretches S = stretchesFrom false 0 S
+
+-- in rising order from slot m on, and each run ends before the slot before the next one
+unfoldable pub Apart : ℕ → List Stretch → Type 0
+Apart m [] = Unit {0}
+Apart m (r ∷ rest) = (m ≤ r .first) × Apart (suc (r .first + r .slots)) rest

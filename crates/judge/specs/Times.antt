@@ -30,7 +30,7 @@ times-append j (x ∷ l) m =
     (λ y. times-here j x (l ++ m) y ∙ ap suc (times-append j l m) ∙ sym (suc-add (times j l) (times j m)) ∙ ap (λ (k : ℕ). k + times j m) (sym (times-here j x l y)))
     (λ y. times-skip j x (l ++ m) y ∙ times-append j l m ∙ ap (λ (k : ℕ). k + times j m) (sym (times-skip j x l y)))
 
-times-none : (j : ℕ) → times j [] ≡ 0
+pub times-none : (j : ℕ) → times j [] ≡ 0
 unfolding times
 times-none j = refl
 
