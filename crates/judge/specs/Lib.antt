@@ -5,3 +5,4 @@ pub mod Times
 pub mod Bounds
 pub mod Stretches
 pub mod Theorems
+pub mod Cases

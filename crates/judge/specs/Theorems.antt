@@ -58,17 +58,23 @@ judge-is-just J table p l =
   where
     slots : List ℕ
     slots = take (J .horizon) table
+
     long : length (take (J .horizon) table) ≡ J .horizon
     long = length-take-le (J .horizon) table l
+
     judged-is : judged J table ≡ accepts (tableCheck (J .releases) (J .deadlines) (J .volumes) (take (J .horizon) table)) (figuresOf J (take (J .horizon) table))
     judged-is = sym (list-passed J table (passes J .1 p)) ∙ long-judged J table l
+
     says : tableCheck (J .releases) (J .deadlines) (J .volumes) (take (J .horizon) table) ≡ Passed → judged J table ≡ accepts Passed (figuresOf J (take (J .horizon) table))
     says e = judged-is ∙ ap (λ (c : Checked). accepts c (figuresOf J (take (J .horizon) table))) e
+
     only : (c : Checked) → judgedNumber (accepts c (figuresOf J (take (J .horizon) table))) ≡ 0 → c ≡ Passed
     only Passed z = refl
     only (Faulty r) z = absurd (refusal-number r z)
+
     passed : judgedNumber (judged J table) ≡ 0 → tableCheck (J .releases) (J .deadlines) (J .volumes) (take (J .horizon) table) ≡ Passed
     passed z = only (tableCheck (J .releases) (J .deadlines) (J .volumes) (take (J .horizon) table)) (ap judgedNumber (sym judged-is) ∙ z)
+
     accepted : Feasible J (take (J .horizon) table) → judgedNumber (judged J table) ≡ 0
     accepted f = ap judgedNumber (says (feasible-faultless J (take (J .horizon) table) p long f))
 

@@ -43,9 +43,10 @@ fn bit(slots: &[u8], t: usize) -> u8
     ensures { λ r. ⌜ r ≡ bitOf (awake (awakeOf (now (slots .entry))) t) ⌝ }
 {
     if t < slots.len() {
-        if slots[t] != 255 {
-            return 1;
+        if slots[t] == 255 {
+            return 0;
         }
+        return 1;
     }
     0
 }

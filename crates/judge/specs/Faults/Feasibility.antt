@@ -31,6 +31,7 @@ module _ (rs ds ps table : List ℕ) where
     where
       both : (slotCheck rs ds ps table t ≡ Passed) × (slotsFrom k (suc t) rs ds ps table ≡ Passed)
       both = then-passed (slotCheck rs ds ps table t) (slotsFrom k (suc t) rs ds ps table) e
+
       go : Dec (i ≡ t) → (suc t ≤ i → i < suc t + k → slotCheck rs ds ps table i ≡ Passed) → slotCheck rs ds ps table i ≡ Passed
       go (yes q) ih = rw q (both .0)
       go (no n) ih = ih (omega arith) (omega arith)
@@ -50,6 +51,7 @@ module _ (named : ℕ → ℕ) (ps : List ℕ) where
     where
       both : (ltb (named j) (getD ps j 0) ≡ false) × (rareFrom k (suc j) named ps ≡ Passed)
       both = unless-passed (ltb (named j) (getD ps j 0)) (TooRare j) (rareFrom k (suc j) named ps) e
+
       go : Dec (i ≡ j) → (suc j ≤ i → i < suc j + k → getD ps i 0 ≤ named i) → getD ps i 0 ≤ named i
       go (yes q) ih = rw q (ltb-false (named j) (getD ps j 0) (both .0))
       go (no n) ih = ih (omega arith) (omega arith)
@@ -103,10 +105,12 @@ module _ (J : Jobs) (table : List ℕ) (p : Passes J) (long : length table ≡ J
     where
       enough : (j : ℕ) → j < count J → volume J j ≤ times j table
       enough j m = omega (arith, f .exact j m)
+
       -- an earlier slot has not used up what this one needs
       left : (t : ℕ) → t < length table → getD table t 0 < count J → times (getD table t 0) (take t table) < volume J (getD table t 0)
       left t l m =
           omega (arith, times-named (getD table t 0) t table l refl, times-front (getD table t 0) (suc t) table, f .exact (getD table t 0) m)
+
       slot : (t : ℕ) → t < length table → slotCheck (J .releases) (J .deadlines) (J .volumes) table t ≡ Passed
       slot t l =
           good-passes (count J) (release J (getD table t 0)) (deadline J (getD table t 0)) t (getD table t 0) (spentIn (J .volumes) (take t table) (getD table t 0)) (p .few)
