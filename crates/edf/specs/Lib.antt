@@ -9,3 +9,4 @@ pub mod Placements
 pub mod Search
 pub mod Whole
 pub mod Theorems
+pub mod Chain
