@@ -19,8 +19,8 @@ eligible-with F t L M j e u = record { below = e .below; released = e .released;
 -- M has a unit of k more than L before slot t. After it the states are M′ and L′, and g and h were served.
 pub data Step (F : Spans) (t k : ℕ) (M L M′ L′ : State) (g h : ℕ) : Type 0 where
   stays : g ≡ h → OneMore k M′ L′ → Step F t k M L M′ L′ g h
-  moves : (k′ : ℕ) → g ≡ h → Eligible F t M k → Chosen F t L k′ → F .d k ≤ F .d k′ → OneMore k′ M′ L′ → Step F t k M L M′ L′ g h
-  meets : g ≡ suc h → Eligible F t M k → ((j : ℕ) → Eligible F t L j → ⊥) → M′ ≡ L′ → Step F t k M L M′ L′ g h
+  moves : (k′ : ℕ) → g ≡ h → Eligible F t M k → Chosen F t L k′ → F .d k ≤ F .d k′ → M′ ≡ L → OneMore k′ M′ L′ → Step F t k M L M′ L′ g h
+  meets : g ≡ suc h → Eligible F t M k → ((j : ℕ) → Eligible F t L j → ⊥) → M′ ≡ L → M′ ≡ L′ → Step F t k M L M′ L′ g h
 
 module _ (F : Spans) (b : Bool) (t k : ℕ) (M L : State) (o : OneMore k M L) where
   more : (j : ℕ) → Eligible F t L j → Eligible F t M j
@@ -35,13 +35,14 @@ module _ (F : Spans) (b : Bool) (t k : ℕ) (M L : State) (o : OneMore k M L) wh
   step-by (some m) none v w = go (ℕ-discrete m k)
     where
       go : Dec (m ≡ k) → Step F t k M L (lowered M m) L 1 0
-      go (yes e) = rw e (meets refl (rw e at (v .1 .able)) (w (v .0)) (less-is-lowered k M L o))
+      go (yes e) = rw e (meets refl (rw e at (v .1 .able)) (w (v .0)) (less-is-lowered k M L o) (less-is-lowered k M L o))
       go (no f) = absurd (w (v .0) m (other m f (v .1 .able)))
   step-by (some m) (some l) v w = go (ℕ-discrete m k)
     where
       go : Dec (m ≡ k) → Step F t k M L (lowered M m) (lowered L l) 1 1
       go (yes e) =
           moves l refl (rw e at (v .1 .able)) (w .1) (rw e at (v .1 .first l (more l (w .1 .able)) .sooner))
+          (rw e (less-is-lowered k M L o))
           (rw (e, less-is-lowered k M L o) (lowered-less L l (w .1 .able .unit)))
       go (no f) =
           let q : m ≡ l = first-unique (F .d) m l (v .1 .first l (more l (w .1 .able))) (w .1 .first m (other m f (v .1 .able))) in
@@ -63,7 +64,7 @@ one-more-worth F S (suc h) t k M L o = go (one-more-worth F S h (suc t)) (step F
   where
     go : {M′ L′ : State} {g i : ℕ} → ((k : ℕ) (M L : State) → OneMore k M L → OneAtMost (vol F S h (suc t) L) (vol F S h (suc t) M)) → Step F t k M L M′ L′ g i → OneAtMost (i + vol F S h (suc t) L′) (g + vol F S h (suc t) M′)
     go {M′} {L′} ih (stays e p) = let w = ih k M′ L′ p in record { low = omega arith; high = omega arith }
-    go {M′} {L′} ih (moves k′ e a c l p) = let w = ih k′ M′ L′ p in record { low = omega arith; high = omega arith }
-    go {M′} {L′} ih (meets e a c q) =
+    go {M′} {L′} ih (moves k′ e a c l i p) = let w = ih k′ M′ L′ p in record { low = omega arith; high = omega arith }
+    go {M′} {L′} ih (meets e a c i q) =
         let w : vol F S h (suc t) M′ ≡ vol F S h (suc t) L′ = ap (λ (X : State). vol F S h (suc t) X) q in
         record { low = omega arith; high = omega arith }

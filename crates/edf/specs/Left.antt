@@ -5,7 +5,7 @@ use mathlib.Core.Bool.{Bool, true, false}
 use mathlib.Core.Option.{Option, none, some}
 use native.Mathlib.Omega.{arith}
 use native.Mathlib.Decide.{ℕ-discrete, le-ind}
-use Rattle.edf.specs.Run.{Spans, State, Eligible, chosen, lowered, after, gain, vol, final, left, allUnits}
+use Rattle.edf.specs.Run.{Spans, State, Eligible, pick, chosen, lowered, after, gain, vol, final, left, allUnits}
 use Rattle.edf.specs.Pick.{View, view}
 use Rattle.edf.specs.Units.{OneMore, lowered-less, lowered-there, lowered-elsewhere, less-everywhere, sum-one-more}
 
@@ -40,6 +40,20 @@ module _ (F : Spans) (S : ℕ → Bool) (p : State) where
   unfolding final left
   final-left zero t T e = let q : t ≡ T = omega arith in rw q
   final-left (suc h) t T e = final-left h (suc t) T (omega arith)
+
+  -- served and lost units together are those of the start
+  pub vol-and-left : (H : ℕ) → vol F S H 0 p + allUnits F (left F S p H) ≡ allUnits F p
+  unfolding left
+  vol-and-left H =
+      ap (λ (L : State). vol F S H 0 p + allUnits F L) (sym (final-left H 0 H (omega arith))) ∙ served-and-left F S H 0 p
+
+  pub left-asleep : (t : ℕ) → S t ≡ false → left F S p (suc t) ≡ left F S p t
+  unfolding left chosen
+  left-asleep t e = rw (e, left, chosen)
+
+  pub left-awake : (t : ℕ) → S t ≡ true → left F S p (suc t) ≡ after (left F S p t) (pick F t (left F S p t))
+  unfolding left chosen
+  left-awake t e = rw (e, left, chosen)
 
   left-step : (t j : ℕ) → left F S p (suc t) j ≤ left F S p t j
   unfolding left

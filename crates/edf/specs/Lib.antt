@@ -1,5 +1,6 @@
 -- Earliest deadline first. `Theorems` has the statements about the words of 01; the other files lead to them.
 pub mod Run
+pub mod Chain
 pub mod Pick
 pub mod Units
 pub mod Apart
@@ -9,4 +10,10 @@ pub mod Placements
 pub mod Search
 pub mod Whole
 pub mod Theorems
-pub mod Chain
+pub mod Find
+pub mod Carry
+pub mod OneSlotMore
+pub mod Helping
+pub mod Shortage
+pub mod Touching
+pub mod Table

@@ -11,8 +11,8 @@ use Rattle.sched.specs.Jobs.{Jobs, count, volume, totalVolume}
 use Rattle.sched.specs.Checks.{Passes}
 use Rattle.sched.specs.Slots.{awake}
 use Rattle.sched.specs.Workable.{Placement, Greatest, units, workable}
-use Rattle.edf.specs.Run.{State, spans, vol, left, bytes, allUnits, edfVolume}
-use Rattle.edf.specs.Left.{served-and-left, final-left}
+use Rattle.edf.specs.Run.{spans, vol, left, bytes, allUnits, edfVolume}
+use Rattle.edf.specs.Left.{vol-and-left}
 use Rattle.edf.specs.Placements.{PlacedFrom, placed-at-most, bytes-long, bytes-units, run-placed}
 use Rattle.edf.specs.Search.{search-is-run}
 
@@ -58,7 +58,5 @@ module _ (J : Jobs) (same : length (J .volumes) ≡ count J) where
 
   -- Served and lost units together are the sum of volumes.
   pub served-and-lost : (S : List Bool) → edfVolume J S + allUnits (spans J) (left (spans J) (awake S) (volume J) (J .horizon)) ≡ totalVolume J
-  unfolding edfVolume left
-  served-and-lost S =
-      ap (λ (L : State). edfVolume J S + allUnits (spans J) L) (sym (final-left (spans J) (awake S) (volume J) (J .horizon) 0 (J .horizon) (omega arith)))
-      ∙ served-and-left (spans J) (awake S) (J .horizon) 0 (volume J) ∙ volumes-sum
+  unfolding edfVolume
+  served-and-lost S = vol-and-left (spans J) (awake S) (volume J) (J .horizon) ∙ volumes-sum
