@@ -9,7 +9,7 @@ use native.Mathlib.Omega.{arith}
 use native.Mathlib.Decide.{ℕ-discrete, decLt, le-ind}
 use lib.ListN.{length, getD}
 use Rattle.edf.specs.Run.{Spans, State, chosen, lowered, after, slotByte, bytes, left}
-use Rattle.edf.specs.Pick.{View, view}
+use Rattle.edf.specs.Pick.{Chosen, View, view}
 use Rattle.edf.specs.Units.{lowered-there, lowered-elsewhere}
 use Rattle.edf.specs.Left.{left-falls}
 use Rattle.edf.specs.Chain.Ends.{Ends}
@@ -65,6 +65,10 @@ module _ (F : Spans) (S : ℕ → Bool) (p : State) where
   unfolding left
   served-less t j e =
       less-where-served F (S t) t (left F S p t) j (served F S p t) (view F (S t) t (left F S p t)) e
+
+  -- a slot that serves a job is awake, and the job is the first of those eligible
+  pub served-first : (t j : ℕ) → served F S p t ≡ some j → (S t ≡ true) × Chosen F t (left F S p t) j
+  served-first t j e = rw e at (view F (S t) t (left F S p t))
 
   pub served-lowers : (t j : ℕ) → served F S p t ≡ some j → left F S p (suc t) ≡ lowered (left F S p t) j
   unfolding left
