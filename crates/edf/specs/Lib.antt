@@ -8,8 +8,6 @@ pub mod Exchange
 pub mod Left
 pub mod Placements
 pub mod Search
-pub mod Whole
-pub mod Theorems
 pub mod Find
 pub mod Carry
 pub mod OneSlotMore
@@ -17,3 +15,9 @@ pub mod Helping
 pub mod Shortage
 pub mod Touching
 pub mod Table
+pub mod FromState
+pub mod Whole
+pub mod Sets
+pub mod Room
+pub mod Overload
+pub mod Theorems

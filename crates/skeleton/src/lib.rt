@@ -1,0 +1,1 @@
+// Laws of the least skeleton: no code, all of it stands in specs/.
