@@ -8,7 +8,7 @@ use native.Mathlib.Omega.{arith}
 use native.Mathlib.Decide.{ℕ-discrete, decLt}
 use borrow.Author.Tests.{eq-eqb, ne-eqb}
 use lib.ListN.{length, getD, set, length-set}
-use lib.Seq.{getD-set-same, getD-set-other}
+use lib.Seq.{getD-set-same, getD-set-other, set-getD}
 use Rattle.sched.specs.Bounded.Laws.{lt-suc}
 use Rattle.edf.specs.Chain.{endBelow, endOf}
 
@@ -89,11 +89,79 @@ unfolding endOf
 end-within j table = ends-below j (length table) table .within
 
 -- Only the slots below s count, and of those only whether they hold j.
-pub end-alike : (j s : ℕ) (a b : List ℕ) → ((t : ℕ) → t < s → getD a t 0 ≡ j → getD b t 0 ≡ j) → ((t : ℕ) → t < s → getD b t 0 ≡ j → getD a t 0 ≡ j) → endBelow j s a ≡ endBelow j s b
-end-alike j s a b to back =
-    let c = ends-below j s a in
-    end-is j s b (endBelow j s a) (record {
+pub ends-alike : (j s : ℕ) (a b : List ℕ) (e : ℕ) → ((t : ℕ) → t < s → getD a t 0 ≡ j → getD b t 0 ≡ j) → ((t : ℕ) → t < s → getD b t 0 ≡ j → getD a t 0 ≡ j) → Ends j s a e → Ends j s b e
+ends-alike j s a b e to back c =
+    record {
       within = c .within;
       holds = λ t q. to t (omega (arith, c .within)) (c .holds t q);
       last = λ t l m h. c .last t l m (back t m h);
-    })
+    }
+
+-- Slots filled in rising order: slot s is stored, and with it the end of its byte.
+
+module _ (table : List ℕ) (s v : ℕ) (inside : s < length table) where
+  pub end-stored : endBelow v (suc s) (set table s v) ≡ suc s
+  end-stored = end-here v s (set table s v) (getD-set-same table s v 0 inside)
+
+  pub end-kept : (j : ℕ) → j ≢ v → endBelow j (suc s) (set table s v) ≡ endBelow j s table
+  end-kept j f =
+      end-lower j s (set table s v) (λ e. f (sym e ∙ getD-set-same table s v 0 inside))
+      ∙ sym
+      (end-is j s (set table s v) (endBelow j s table)
+        (ends-alike j s table (set table s v) (endBelow j s table) (λ t l e. getD-set-other table s t v 0 (omega arith) ∙ e)
+          (λ t l e. sym (getD-set-other table s t v 0 (omega arith)) ∙ e) (ends-below j s table)))
+
+-- Slot t, which holds no job, takes job j; and slot w, which job j gives up for it, is left blank.
+
+module _ (h : ℕ) (table : List ℕ) (long : length table ≡ h) (blank j t : ℕ) (inside : t < h) where
+  stored : (v : ℕ) → getD (set table t v) t 0 ≡ v
+  stored v = getD-set-same table t v 0 (omega arith)
+
+  aside : (v u : ℕ) → u ≢ t → getD (set table t v) u 0 ≡ getD table u 0
+  aside v u f = getD-set-other table t u v 0 f
+
+  -- the end of j itself
+  pub ends-gained : blank ≢ j → (e : ℕ) → Ends j h (set table t blank) e → Ends j h (set table t j) (max e (suc t))
+  ends-gained f e c =
+      record {
+        within = omega (arith, c .within);
+        holds = λ u q. holds u q (ℕ-discrete u t);
+        last = λ u l m q. c .last u (omega arith) m (aside blank u (omega arith) ∙ sym (aside j u (omega arith)) ∙ q);
+      }
+    where
+      holds : (u : ℕ) → max e (suc t) ≡ suc u → Dec (u ≡ t) → getD (set table t j) u 0 ≡ j
+      holds u q (yes i) = rw i (stored j)
+      holds u q (no g) = aside j u g ∙ sym (aside blank u g) ∙ c .holds u (omega arith)
+
+  -- the ends of other jobs
+  pub ends-kept : (i : ℕ) → i ≢ j → i ≢ blank → (e : ℕ) → Ends i h (set table t blank) e → Ends i h (set table t j) e
+  ends-kept i f g e c =
+      ends-alike i h (set table t blank) (set table t j) e (λ u l q. to u q (ℕ-discrete u t)) (λ u l q. back u q (ℕ-discrete u t)) c
+    where
+      to : (u : ℕ) → getD (set table t blank) u 0 ≡ i → Dec (u ≡ t) → getD (set table t j) u 0 ≡ i
+      to u q (yes a) = let w : getD (set table t blank) t 0 ≡ i = rw a at q in absurd (g (sym w ∙ stored blank))
+      to u q (no a) = aside j u a ∙ sym (aside blank u a) ∙ q
+
+      back : (u : ℕ) → getD (set table t j) u 0 ≡ i → Dec (u ≡ t) → getD (set table t blank) u 0 ≡ i
+      back u q (yes a) = let w : getD (set table t j) t 0 ≡ i = rw a at q in absurd (f (sym w ∙ stored j))
+      back u q (no a) = aside blank u a ∙ sym (aside j u a) ∙ q
+
+-- slot w, the last of job j, is left blank
+module _ (h : ℕ) (table : List ℕ) (long : length table ≡ h) (blank j w : ℕ) (inside : w < h) where
+  pub ends-blank : blank ≢ j → Ends j h table (suc w) → Ends j h (set table w blank) (endBelow j w table)
+  ends-blank f c =
+      let b = ends-below j w table in
+      record {
+        within = omega (arith, b .within);
+        holds = λ u q. getD-set-other table w u blank 0 (omega (arith, b .within)) ∙ b .holds u q;
+        last = λ u l m. go u l m (decLt u w) (decLt w u);
+      }
+    where
+      go : (u : ℕ) → endBelow j w table ≤ u → u < h → Dec (u < w) → Dec (w < u) → getD (set table w blank) u 0 ≢ j
+      go u l m (yes a) _ = λ q. ends-below j w table .last u l a (sym (getD-set-other table w u blank 0 (omega arith)) ∙ q)
+      go u l m (no a) (yes b) = λ q. c .last u b m (sym (getD-set-other table w u blank 0 (omega arith)) ∙ q)
+      go u l m (no a) (no b) = let e : u ≡ w = omega arith in rw e (λ q. f (sym (getD-set-same table w blank 0 (omega arith)) ∙ q))
+
+  pub ends-unblanked : (i : ℕ) → i ≢ j → i ≢ blank → getD table w 0 ≡ j → (e : ℕ) → Ends i h table e → Ends i h (set table w blank) e
+  ends-unblanked i f g v e c =
+      ends-kept h table long j blank w inside i g f e (rw (← v, set-getD table w 0) c)
