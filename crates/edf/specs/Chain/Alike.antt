@@ -12,7 +12,7 @@ use Rattle.edf.specs.Pick.{Chosen, View, view}
 use Rattle.edf.specs.Units.{OneMore, lowered-there, lowered-elsewhere, both-lowered, less-everywhere}
 use Rattle.edf.specs.Apart.{first-unique, eligible-with}
 use Rattle.edf.specs.Left.{left-falls}
-use Rattle.edf.specs.OneSlotMore.{Extra}
+use Rattle.edf.specs.OneSlotMore.{Extra, before-extra}
 use Rattle.edf.specs.Chain.Served.{served, byteOf}
 
 -- what a slot serves is known from what is eligible
@@ -106,6 +106,11 @@ module _ (F : Spans) (S S′ : ℕ → Bool) (p : State) (x : ℕ) (c : Extra S 
     where
       here : served F S p t ≡ served F S′ p t → served F S p t ≡ chosen F (S t) t (left F S′ p t)
       here e = rw (c .same t (omega arith)) at e
+
+  pub before-byte : (t : ℕ) → t < x → byteOf F S p t ≡ byteOf F S′ p t
+  before-byte t l =
+      rw (c .same t (omega arith))
+      (ap (λ (L : State). slotByte (S t) (chosen F (S t) t L)) (before-extra F S S′ p x c t (omega arith)))
 
   -- runs that have met stay together
   pub merged : (a b : ℕ) → x < a → a ≤ b → left F S p a ≡ left F S′ p a → left F S p b ≡ left F S′ p b
