@@ -33,12 +33,16 @@ pub record Sooner (d : ℕ → ℕ) (a b : ℕ) : Type 0 where
   pub sooner : d a ≤ d b
   pub lower : d b ≤ d a → a < b
 
+-- the job of rank k
+abbrev pub jobAt : List ℕ → ℕ → ℕ
+jobAt order k = getD order k 0
+
 -- order holds the job of each rank; what stands past the last rank is free
 pub record RankedJobs (J : Jobs) (order : List ℕ) : Type 0 where
   pub long : count J ≤ length order
-  pub known : (k : ℕ) → k < count J → getD order k 0 < count J
-  pub ranked : (j : ℕ) → j < count J → (k : ℕ) × (k < count J) × (getD order k 0 ≡ j)
-  pub rising : (i k : ℕ) → i < k → k < count J → Sooner (deadline J) (getD order i 0) (getD order k 0)
+  pub known : (k : ℕ) → k < count J → jobAt order k < count J
+  pub ranked : (j : ℕ) → j < count J → (k : ℕ) × (k < count J) × (jobAt order k ≡ j)
+  pub rising : (i k : ℕ) → i < k → k < count J → Sooner (deadline J) (jobAt order i) (jobAt order k)
 
 -- the run of S, as it is kept; what stands in lost and ends past the last job is free
 pub record Kept (J : Jobs) (S : List Bool) (table lost ends : List ℕ) : Type 0 where
@@ -57,12 +61,12 @@ isOpen J lost ends t j =
 unfoldable pub gains : Jobs → List ℕ → List ℕ → List ℕ → ℕ → ℕ → ℕ → Bool
 gains J order lost ends zero k t = false
 gains J order lost ends (suc m) k t =
-    elim (isOpen J lost ends t (getD order k 0)) [
+    elim (isOpen J lost ends t (jobAt order k)) [
       | false ↦ gains J order lost ends m (suc k) t
       | true ↦
-        elim (ltb 0 (getD lost (getD order k 0) 0)) [
+        elim (ltb 0 (getD lost (jobAt order k) 0)) [
           | true ↦ true
-          | false ↦ gains J order lost ends m (suc k) (getD ends (getD order k 0) 0 - 1)
+          | false ↦ gains J order lost ends m (suc k) (getD ends (jobAt order k) 0 - 1)
         ]
     ]
 
@@ -91,14 +95,14 @@ givenUp j table ends = set ends j (endBelow j (getD ends j 0 - 1) table)
 unfoldable pub applied : Jobs → List ℕ → ℕ → ℕ → ℕ → List ℕ → List ℕ → List ℕ → Books
 applied J order zero k t table lost ends = record { table = table; lost = lost; ends = ends }
 applied J order (suc m) k t table lost ends =
-    elim (isOpen J lost ends t (getD order k 0)) [
+    elim (isOpen J lost ends t (jobAt order k)) [
       | false ↦ applied J order m (suc k) t table lost ends
       | true ↦
-        elim (ltb 0 (getD lost (getD order k 0) 0)) [
-          | true ↦ gained (getD order k 0) t table lost ends
+        elim (ltb 0 (getD lost (jobAt order k) 0)) [
+          | true ↦ gained (jobAt order k) t table lost ends
           | false ↦
-            applied J order m (suc k) (getD ends (getD order k 0) 0 - 1) (set table t (getD order k 0)) lost
-            (givenUp (getD order k 0) (set table t (getD order k 0)) ends)
+            applied J order m (suc k) (getD ends (jobAt order k) 0 - 1) (set table t (jobAt order k)) lost
+            (givenUp (jobAt order k) (set table t (jobAt order k)) ends)
         ]
     ]
 

@@ -19,7 +19,7 @@ use Rattle.edf.specs.Units.{OneMore, lowered-less, lowered-there, lowere
 use Rattle.edf.specs.Apart.{eligible-with}
 use Rattle.edf.specs.Left.{left-falls, left-asleep}
 use Rattle.edf.specs.OneSlotMore.{Extra, before-extra}
-use Rattle.edf.specs.Chain.{RankedJobs, isOpen}
+use Rattle.edf.specs.Chain.{jobAt, RankedJobs, isOpen}
 use Rattle.edf.specs.Chain.Served.{served, LastServed, served-less, served-first, served-lowers, left-after-last, left-before-last}
 use Rattle.edf.specs.Chain.Alike.{chosen-is, chosen-none, AlikeTo, alike-to}
 
@@ -54,18 +54,14 @@ module _ (J : Jobs) (lost ends : List ℕ) (t j : ℕ) where
 
 -- Ranks
 
--- the job of rank k
-abbrev pub jobAt : List ℕ → ℕ → ℕ
-jobAt order k = getD order k 0
-
 module _ (J : Jobs) (order : List ℕ) (c : RankedJobs J order) where
-  pub ranks-differ : (i k : ℕ) → i < k → k < count J → getD order i 0 ≢ getD order k 0
+  pub ranks-differ : (i k : ℕ) → i < k → k < count J → jobAt order i ≢ jobAt order k
   ranks-differ i k l m e = let s = c .rising i k l m in omega (arith, s .lower (rw e (omega arith)))
 
-  pub lower-rank-first : (i k : ℕ) → i ≤ k → k < count J → First (deadline J) (getD order i 0) (getD order k 0)
+  pub lower-rank-first : (i k : ℕ) → i ≤ k → k < count J → First (deadline J) (jobAt order i) (jobAt order k)
   lower-rank-first i k l m = go (ℕ-discrete i k)
     where
-      go : Dec (i ≡ k) → First (deadline J) (getD order i 0) (getD order k 0)
+      go : Dec (i ≡ k) → First (deadline J) (jobAt order i) (jobAt order k)
       go (yes e) = rw e (record { sooner = omega arith; lower = λ _. omega arith })
       go (no f) = let s = c .rising i k (omega arith) m in record { sooner = s .sooner; lower = λ d. omega (arith, s .lower d) }
 
@@ -85,9 +81,9 @@ pub record Ahead (J : Jobs) (order ends : List ℕ) (S S′ : ℕ → Bool) (x k
   pub inside : t < J .horizon
   pub awake : S′ t ≡ true
   pub ahead : leftOf J S (suc t) ≡ leftOf J S′ t
-  pub passed : (i : ℕ) → i < k → Eligible (spans J) t (leftOf J S (suc t)) (getD order i 0) → ⊥
-  pub fresh : (i : ℕ) → k ≤ i → i < count J → servedBy J S t ≢ some (getD order i 0)
-  pub lasts : (i : ℕ) → k ≤ i → i < count J → LastSlot J S (getD order i 0) (getD ends (getD order i 0) 0)
+  pub passed : (i : ℕ) → i < k → Eligible (spans J) t (leftOf J S (suc t)) (jobAt order i) → ⊥
+  pub fresh : (i : ℕ) → k ≤ i → i < count J → servedBy J S t ≢ some (jobAt order i)
+  pub lasts : (i : ℕ) → k ≤ i → i < count J → LastSlot J S (jobAt order i) (getD ends (jobAt order i) 0)
 
 -- what is kept of lost units
 abbrev pub Loses : Jobs → (ℕ → Bool) → List ℕ → Type 0
@@ -95,7 +91,7 @@ Loses J S lost = (j : ℕ) → j < count J → getD lost j 0 ≡ leftOf J S (J .
 
 module _ (J : Jobs) (order lost ends : List ℕ) (S S′ : ℕ → Bool) (x : ℕ) (ranks : RankedJobs J order) (extra : Extra S S′ x) (loses : Loses J S lost) where
   -- it starts at the woken slot
-  pub ahead-start : x < J .horizon → ((i : ℕ) → i < count J → LastSlot J S (getD order i 0) (getD ends (getD order i 0) 0)) → Ahead J order ends S S′ x 0 x
+  pub ahead-start : x < J .horizon → ((i : ℕ) → i < count J → LastSlot J S (jobAt order i) (getD ends (jobAt order i) 0)) → Ahead J order ends S S′ x 0 x
   unfolding chosen
   ahead-start l e =
       record {
@@ -166,7 +162,7 @@ module _ (J : Jobs) (order lost ends : List ℕ) (S S′ : ℕ → Bool) (x : �
       takes : Chosen (spans J) t (leftOf J S (suc t)) (jobAt order k)
       takes = record { able = open-able is-open; first = λ j e. go j e (ranks .ranked j (e .below)) }
         where
-          go : (j : ℕ) → Eligible (spans J) t (leftOf J S (suc t)) j → (i : ℕ) × (i < count J) × (getD order i 0 ≡ j) → First (deadline J) (jobAt order k) j
+          go : (j : ℕ) → Eligible (spans J) t (leftOf J S (suc t)) j → (i : ℕ) × (i < count J) × (jobAt order i ≡ j) → First (deadline J) (jobAt order k) j
           go j e (i, l, q) = by (decLt i k)
             where
               by : Dec (i < k) → First (deadline J) (jobAt order k) j
@@ -250,5 +246,5 @@ module _ (J : Jobs) (order lost ends : List ℕ) (S S′ : ℕ → Bool) (x : �
       nobody : (j : ℕ) → Eligible (spans J) t (leftOf J S (suc t)) j → ⊥
       nobody j e = go (ranks .ranked j (e .below))
         where
-          go : (i : ℕ) × (i < count J) × (getD order i 0 ≡ j) → ⊥
+          go : (i : ℕ) × (i < count J) × (jobAt order i ≡ j) → ⊥
           go (i, m, q) = h .passed i (omega arith) (rw q e)

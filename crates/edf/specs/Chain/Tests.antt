@@ -20,10 +20,10 @@ use Rattle.edf.specs.Left.{vol-and-left}
 use Rattle.edf.specs.OneSlotMore.{Extra}
 use Rattle.edf.specs.Sets.{woken-extra}
 use Rattle.edf.specs.Theorems.{workable-is-edf}
-use Rattle.edf.specs.Chain.{RankedJobs, Kept, isOpen, gains, chainHelps}
+use Rattle.edf.specs.Chain.{jobAt, RankedJobs, Kept, isOpen, gains, chainHelps}
 use Rattle.edf.specs.Chain.Turns.{gains-closed, gains-lost, gains-on}
 use Rattle.edf.specs.Chain.Alike.{merged}
-use Rattle.edf.specs.Chain.Ahead.{jobAt, leftOf, Loses, Ahead, open-ends, ahead-start, ahead-closed, ahead-on, ahead-end, gained-alike}
+use Rattle.edf.specs.Chain.Ahead.{leftOf, Loses, Ahead, open-ends, ahead-start, ahead-closed, ahead-on, ahead-end, gained-alike}
 use Rattle.edf.specs.Chain.Keeping.{kept-loses, kept-last}
 
 -- the units that the run of S serves

@@ -8,22 +8,22 @@ use native.Mathlib.Omega.{arith}
 use borrow.Author.Tests.{lt-ltb, le-ltb}
 use lib.ListN.{length, getD, set}
 use Rattle.sched.specs.Jobs.{Jobs}
-use Rattle.edf.specs.Chain.{isOpen, gains, Books, gained, givenUp, applied}
+use Rattle.edf.specs.Chain.{jobAt, isOpen, gains, Books, gained, givenUp, applied}
 
 module _ (J : Jobs) (order lost ends : List ℕ) (m k t : ℕ) where
-  asked-closed : isOpen J lost ends t (getD order k 0) ≡ false → gains J order lost ends (suc m) k t ≡ gains J order lost ends m (suc k) t
+  asked-closed : isOpen J lost ends t (jobAt order k) ≡ false → gains J order lost ends (suc m) k t ≡ gains J order lost ends m (suc k) t
   unfolding gains
   asked-closed e = rw (e, gains)
 
-  asked-lost : isOpen J lost ends t (getD order k 0) ≡ true → 0 < getD lost (getD order k 0) 0 → gains J order lost ends (suc m) k t ≡ true
+  asked-lost : isOpen J lost ends t (jobAt order k) ≡ true → 0 < getD lost (jobAt order k) 0 → gains J order lost ends (suc m) k t ≡ true
   unfolding gains
-  asked-lost e l = rw (e, lt-ltb 0 (getD lost (getD order k 0) 0) l, gains)
+  asked-lost e l = rw (e, lt-ltb 0 (getD lost (jobAt order k) 0) l, gains)
 
-  asked-on : isOpen J lost ends t (getD order k 0) ≡ true → getD lost (getD order k 0) 0 ≡ 0 → gains J order lost ends (suc m) k t ≡ gains J order lost ends m (suc k) (getD ends (getD order k 0) 0 - 1)
+  asked-on : isOpen J lost ends t (jobAt order k) ≡ true → getD lost (jobAt order k) 0 ≡ 0 → gains J order lost ends (suc m) k t ≡ gains J order lost ends m (suc k) (getD ends (jobAt order k) 0 - 1)
   unfolding gains
-  asked-on e l = rw (e, le-ltb 0 (getD lost (getD order k 0) 0) (omega arith), gains)
+  asked-on e l = rw (e, le-ltb 0 (getD lost (jobAt order k) 0) (omega arith), gains)
 
-  module _ (j : ℕ) (named : getD order k 0 ≡ j) where
+  module _ (j : ℕ) (named : jobAt order k ≡ j) where
     pub gains-closed : isOpen J lost ends t j ≡ false → gains J order lost ends (suc m) k t ≡ gains J order lost ends m (suc k) t
     gains-closed e = asked-closed (rw (← named) at e)
 
@@ -34,19 +34,19 @@ module _ (J : Jobs) (order lost ends : List ℕ) (m k t : ℕ) where
     gains-on e l = rw (← named) (asked-on (rw (← named) at e) (rw (← named) at l))
 
 module _ (J : Jobs) (order table lost ends : List ℕ) (m k t : ℕ) where
-  done-closed : isOpen J lost ends t (getD order k 0) ≡ false → applied J order (suc m) k t table lost ends ≡ applied J order m (suc k) t table lost ends
+  done-closed : isOpen J lost ends t (jobAt order k) ≡ false → applied J order (suc m) k t table lost ends ≡ applied J order m (suc k) t table lost ends
   unfolding applied
   done-closed e = rw (e, applied)
 
-  done-lost : isOpen J lost ends t (getD order k 0) ≡ true → 0 < getD lost (getD order k 0) 0 → applied J order (suc m) k t table lost ends ≡ gained (getD order k 0) t table lost ends
+  done-lost : isOpen J lost ends t (jobAt order k) ≡ true → 0 < getD lost (jobAt order k) 0 → applied J order (suc m) k t table lost ends ≡ gained (jobAt order k) t table lost ends
   unfolding applied
-  done-lost e l = rw (e, lt-ltb 0 (getD lost (getD order k 0) 0) l, applied)
+  done-lost e l = rw (e, lt-ltb 0 (getD lost (jobAt order k) 0) l, applied)
 
-  done-on : isOpen J lost ends t (getD order k 0) ≡ true → getD lost (getD order k 0) 0 ≡ 0 → applied J order (suc m) k t table lost ends ≡ applied J order m (suc k) (getD ends (getD order k 0) 0 - 1) (set table t (getD order k 0)) lost (givenUp (getD order k 0) (set table t (getD order k 0)) ends)
+  done-on : isOpen J lost ends t (jobAt order k) ≡ true → getD lost (jobAt order k) 0 ≡ 0 → applied J order (suc m) k t table lost ends ≡ applied J order m (suc k) (getD ends (jobAt order k) 0 - 1) (set table t (jobAt order k)) lost (givenUp (jobAt order k) (set table t (jobAt order k)) ends)
   unfolding applied
-  done-on e l = rw (e, le-ltb 0 (getD lost (getD order k 0) 0) (omega arith), applied)
+  done-on e l = rw (e, le-ltb 0 (getD lost (jobAt order k) 0) (omega arith), applied)
 
-  module _ (j : ℕ) (named : getD order k 0 ≡ j) where
+  module _ (j : ℕ) (named : jobAt order k ≡ j) where
     pub applied-closed : isOpen J lost ends t j ≡ false → applied J order (suc m) k t table lost ends ≡ applied J order m (suc k) t table lost ends
     applied-closed e = done-closed (rw (← named) at e)
 
@@ -62,15 +62,15 @@ turns-left : (n k : ℕ) → k < n → n - k ≡ suc (n - suc k)
 turns-left n k l = omega arith
 
 module _ (J : Jobs) (order lost ends : List ℕ) (all : Bool) (n k t j : ℕ) where
-  pub test-closed : k < n → getD order k 0 ≡ j → isOpen J lost ends t j ≡ false → all ≡ gains J order lost ends (n - k) k t → all ≡ gains J order lost ends (n - (k + 1)) (k + 1) t
+  pub test-closed : k < n → jobAt order k ≡ j → isOpen J lost ends t j ≡ false → all ≡ gains J order lost ends (n - k) k t → all ≡ gains J order lost ends (n - (k + 1)) (k + 1) t
   test-closed l named o e =
       rw add-one (rw (turns-left n k l) at e ∙ gains-closed J order lost ends (n - suc k) k t j named o)
 
-  pub test-lost : k < n → getD order k 0 ≡ j → isOpen J lost ends t j ≡ true → 0 < getD lost j 0 → all ≡ gains J order lost ends (n - k) k t → all ≡ true
+  pub test-lost : k < n → jobAt order k ≡ j → isOpen J lost ends t j ≡ true → 0 < getD lost j 0 → all ≡ gains J order lost ends (n - k) k t → all ≡ true
   test-lost l named o u e =
       rw (turns-left n k l) at e ∙ gains-lost J order lost ends (n - suc k) k t j named o u
 
-  pub test-on : k < n → getD order k 0 ≡ j → isOpen J lost ends t j ≡ true → getD lost j 0 ≡ 0 → all ≡ gains J order lost ends (n - k) k t → all ≡ gains J order lost ends (n - (k + 1)) (k + 1) (getD ends j 0 - 1)
+  pub test-on : k < n → jobAt order k ≡ j → isOpen J lost ends t j ≡ true → getD lost j 0 ≡ 0 → all ≡ gains J order lost ends (n - k) k t → all ≡ gains J order lost ends (n - (k + 1)) (k + 1) (getD ends j 0 - 1)
   test-on l named o u e =
       rw add-one (rw (turns-left n k l) at e ∙ gains-on J order lost ends (n - suc k) k t j named o u)
 
@@ -79,15 +79,15 @@ module _ (J : Jobs) (order lost ends : List ℕ) (all : Bool) (n k t j : ℕ) wh
   test-end l e = let z : n - k ≡ 0 = omega arith in rw z at e
 
 module _ (J : Jobs) (order table lost ends : List ℕ) (all : Books) (n k t j : ℕ) where
-  pub apply-closed : k < n → getD order k 0 ≡ j → isOpen J lost ends t j ≡ false → all ≡ applied J order (n - k) k t table lost ends → all ≡ applied J order (n - (k + 1)) (k + 1) t table lost ends
+  pub apply-closed : k < n → jobAt order k ≡ j → isOpen J lost ends t j ≡ false → all ≡ applied J order (n - k) k t table lost ends → all ≡ applied J order (n - (k + 1)) (k + 1) t table lost ends
   apply-closed l named o e =
       rw add-one (rw (turns-left n k l) at e ∙ applied-closed J order table lost ends (n - suc k) k t j named o)
 
-  pub apply-lost : k < n → getD order k 0 ≡ j → isOpen J lost ends t j ≡ true → 0 < getD lost j 0 → all ≡ applied J order (n - k) k t table lost ends → all ≡ gained j t table lost ends
+  pub apply-lost : k < n → jobAt order k ≡ j → isOpen J lost ends t j ≡ true → 0 < getD lost j 0 → all ≡ applied J order (n - k) k t table lost ends → all ≡ gained j t table lost ends
   apply-lost l named o u e =
       rw (turns-left n k l) at e ∙ applied-lost J order table lost ends (n - suc k) k t j named o u
 
-  pub apply-on : k < n → getD order k 0 ≡ j → isOpen J lost ends t j ≡ true → getD lost j 0 ≡ 0 → all ≡ applied J order (n - k) k t table lost ends → all ≡ applied J order (n - (k + 1)) (k + 1) (getD ends j 0 - 1) (set table t j) lost (givenUp j (set table t j) ends)
+  pub apply-on : k < n → jobAt order k ≡ j → isOpen J lost ends t j ≡ true → getD lost j 0 ≡ 0 → all ≡ applied J order (n - k) k t table lost ends → all ≡ applied J order (n - (k + 1)) (k + 1) (getD ends j 0 - 1) (set table t j) lost (givenUp j (set table t j) ends)
   apply-on l named o u e =
       rw add-one (rw (turns-left n k l) at e ∙ applied-on J order table lost ends (n - suc k) k t j named o u)
 

@@ -19,12 +19,12 @@ use Rattle.edf.specs.Run.{spans, bytes}
 use Rattle.edf.specs.Units.{OneMore}
 use Rattle.edf.specs.Placements.{bytes-long}
 use Rattle.edf.specs.OneSlotMore.{Extra}
-use Rattle.edf.specs.Chain.{RankedJobs, Kept, isOpen, endBelow, endOf, Books, gained, givenUp, applied, chainApply}
+use Rattle.edf.specs.Chain.{jobAt, RankedJobs, Kept, isOpen, endBelow, endOf, Books, gained, givenUp, applied, chainApply}
 use Rattle.edf.specs.Chain.Ends.{Ends, ends-below, end-is, ends-gained, ends-kept, ends-blank, ends-unblanked}
 use Rattle.edf.specs.Chain.Turns.{applied-closed, applied-lost, applied-on}
 use Rattle.edf.specs.Chain.Served.{byteOf, table-byte, serves-byte}
 use Rattle.edf.specs.Chain.Alike.{AlikeTo, alike-byte, before-byte}
-use Rattle.edf.specs.Chain.Ahead.{jobAt, leftOf, servedBy, Loses, Ahead, ranks-differ, open-ends, ahead-closed, ahead-on, comes-later, given-alike, serves-there, gained-alike}
+use Rattle.edf.specs.Chain.Ahead.{leftOf, servedBy, Loses, Ahead, ranks-differ, open-ends, ahead-closed, ahead-on, comes-later, given-alike, serves-there, gained-alike}
 use Rattle.edf.specs.Chain.Keeping.{runBytes, times-left, kept-long, kept-loses, kept-ends}
 use Rattle.edf.specs.Chain.Tests.{volumeOf, met-at-end, woken, starts-ahead, helps-by-volume}
 
