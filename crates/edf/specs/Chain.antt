@@ -18,6 +18,7 @@ pub mod Alike
 pub mod Ahead
 pub mod Keeping
 pub mod Tests
+pub mod Storing
 pub mod Updates
 
 -- One more than the last slot below s that holds j, or 0. To search from s downwards is to step from s to its predecessor.
