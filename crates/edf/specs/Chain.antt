@@ -20,6 +20,8 @@ pub mod Keeping
 pub mod Tests
 pub mod Storing
 pub mod Updates
+pub mod Bounds
+pub mod Finish
 
 -- One more than the last slot below s that holds j, or 0. To search from s downwards is to step from s to its predecessor.
 unfoldable pub endBelow : ℕ → ℕ → List ℕ → ℕ
@@ -74,27 +76,27 @@ gains J order lost ends (suc m) k t =
 unfoldable pub chainHelps : Jobs → List ℕ → List ℕ → List ℕ → ℕ → Bool
 chainHelps J order lost ends x = gains J order lost ends (count J) 0 x
 
+-- what is kept of a run
 pub record Books : Type 0 where
   pub table : List ℕ
   pub lost : List ℕ
   pub ends : List ℕ
 
+abbrev pub books : List ℕ → List ℕ → List ℕ → Books
+books table lost ends = record { table = table; lost = lost; ends = ends }
+
 -- job j gains slot t for one of its lost units
 abbrev pub gained : ℕ → ℕ → List ℕ → List ℕ → List ℕ → Books
 gained j t table lost ends =
-    record {
-      table = set table t j;
-      lost = set lost j (getD lost j 0 - 1);
-      ends = set ends j (max (getD ends j 0) (suc t));
-    }
+    books (set table t j) (set lost j (getD lost j 0 - 1)) (set ends j (max (getD ends j 0) (suc t)))
 
--- the ends after job j, which now stands in the table's slot t as well, has given up its last slot
+-- the ends after job j, which the table has in another slot instead, has given up its last one
 abbrev pub givenUp : ℕ → List ℕ → List ℕ → List ℕ
 givenUp j table ends = set ends j (endBelow j (getD ends j 0 - 1) table)
 
 -- what the chain makes of the books: as `gains`, with the changes on the way
 unfoldable pub applied : Jobs → List ℕ → ℕ → ℕ → ℕ → List ℕ → List ℕ → List ℕ → Books
-applied J order zero k t table lost ends = record { table = table; lost = lost; ends = ends }
+applied J order zero k t table lost ends = books table lost ends
 applied J order (suc m) k t table lost ends =
     elim (isOpen J lost ends t (jobAt order k)) [
       | false ↦ applied J order m (suc k) t table lost ends

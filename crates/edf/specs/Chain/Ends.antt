@@ -36,6 +36,14 @@ module _ (j : ℕ) (table : List ℕ) (all : ℕ) where
       let q : suc s - 1 ≡ s = omega arith in
       e ∙ end-here j s table (rw q at f)
 
+  -- a search that has j below it does not run out
+  pub scan-above : (s t : ℕ) → t < s → getD table t 0 ≡ j → getD table (s - 1) 0 ≢ j → t < s - 1
+  scan-above s t l e f = go (ℕ-discrete (s - 1) t)
+    where
+      go : Dec (s - 1 ≡ t) → t < s - 1
+      go (yes q) = absurd (f (rw q e))
+      go (no g) = omega arith
+
   pub scan-end : (s : ℕ) → s ≡ 0 → all ≡ endBelow j s table → all ≡ 0
   unfolding endBelow
   scan-end s q e = rw q at e
@@ -161,6 +169,13 @@ module _ (h : ℕ) (table : List ℕ) (long : length table ≡ h) (blank j w : �
       go u l m (yes a) _ = λ q. ends-below j w table .last u l a (sym (getD-set-other table w u blank 0 (omega arith)) ∙ q)
       go u l m (no a) (yes b) = λ q. c .last u b m (sym (getD-set-other table w u blank 0 (omega arith)) ∙ q)
       go u l m (no a) (no b) = let e : u ≡ w = omega arith in rw e (λ q. f (sym (getD-set-same table w blank 0 (omega arith)) ∙ q))
+
+  -- the search below w finds the end that j has once slot w is another's
+  pub scan-finds-end : blank ≢ j → Ends j h table (suc w) → endBelow j w table ≡ endOf j (set table w blank)
+  unfolding endOf
+  scan-finds-end f c =
+      let q : length (set table w blank) ≡ h = length-set table w blank ∙ long in
+      rw q (end-is j h (set table w blank) (endBelow j w table) (ends-blank f c))
 
   pub ends-unblanked : (i : ℕ) → i ≢ j → i ≢ blank → getD table w 0 ≡ j → (e : ℕ) → Ends i h table e → Ends i h (set table w blank) e
   ends-unblanked i f g v e c =

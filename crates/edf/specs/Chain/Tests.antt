@@ -49,13 +49,13 @@ module _ {J : Jobs} {order lost : List ℕ} {S S′ : ℕ → Bool} {x : ℕ} (c
     where
       go : Dec (0 < getD lost (jobAt order k) 0) → Found (suc m) k t
       go (yes u) =
-          gains-lost J order lost ends m k t (jobAt order k) refl o u
+          gains-lost J order lost ends m k t o u
           ∙ sym (eq-eqb (volumeOf J S′) (suc (volumeOf J S)) (apart-volume J S S′ (jobAt order k) (c .ranks .known k below) (gained-alike c h below o u .apart)))
       go (no f) =
           let z : getD lost (jobAt order k) 0 ≡ 0 = omega arith in
           let w = getD ends (jobAt order k) 0 - 1 in
           let q : getD ends (jobAt order k) 0 ≡ suc w = omega (arith, open-ends J lost ends t (jobAt order k) o z) in
-          gains-on J order lost ends m k t (jobAt order k) refl o z ∙ later w (ahead-on c h below o z q (λ i a b. refl))
+          gains-on J order lost ends m k t o z ∙ later w (ahead-on c h below o z q (λ i a b. refl))
 
   found : (m k t : ℕ) → m + k ≡ count J → Ahead J order ends S S′ x k t → Found m k t
   unfolding gains
@@ -64,7 +64,7 @@ module _ {J : Jobs} {order lost : List ℕ} {S S′ : ℕ → Bool} {x : ℕ} (c
   found (suc m) k t q h =
       by-bool (isOpen J lost ends t (jobAt order k))
       (λ o. open-turn m k t h (omega arith) o (λ w. found m (suc k) w (omega arith)))
-      (λ o. gains-closed J order lost ends m k t (jobAt order k) refl o ∙ found m (suc k) t (omega arith) (ahead-closed c h (omega arith) o))
+      (λ o. gains-closed J order lost ends m k t o ∙ found m (suc k) t (omega arith) (ahead-closed c h (omega arith) o))
 
 pub helps-by-volume : (J : Jobs) (S : List Bool) (x : ℕ) → length S ≡ J .horizon → helps J S x ≡ eqb (volumeOf J (awake (wakeSlot S x))) (suc (volumeOf J (awake S)))
 unfolding helps edfVolume

@@ -48,12 +48,12 @@ module _ {J : Jobs} (few : count J ≤ 254) {order lost : List ℕ} (lost-long :
     where
       go : Dec (0 < getD lost (jobAt order k) 0) → KeptBooks J T (applied J order (suc m) k t table lost ends)
       go (yes u) =
-          rw (applied-lost J order table lost ends m k t (jobAt order k) refl o u) (gained-kept h below o u)
+          rw (applied-lost J order table lost ends m k t o u) (gained-kept h below o u)
       go (no f) =
           let z : getD lost (jobAt order k) 0 ≡ 0 = omega arith in
           let w = getD ends (jobAt order k) 0 - 1 in
           let q : getD ends (jobAt order k) 0 ≡ suc w = omega (arith, open-ends J lost ends t (jobAt order k) o z) in
-          rw (applied-on J order table lost ends m k t (jobAt order k) refl o z)
+          rw (applied-on J order table lost ends m k t o z)
           (later w (stored order k t table) (givenUp (jobAt order k) (stored order k t table) ends) (storing-on few c h below o z w q))
 
   -- where the woken run serves a unit more, the chain does not end without a job
@@ -63,7 +63,7 @@ module _ {J : Jobs} (few : count J ≤ 254) {order lost : List ℕ} (lost-long :
   applied-kept more (suc m) k t table ends q h =
       by-bool (isOpen J lost ends t (jobAt order k))
       (λ o. open-turn m k t table ends h (omega arith) o (λ w table ends. applied-kept more m (suc k) w table ends (omega arith)))
-      (λ o. rw (applied-closed J order table lost ends m k t (jobAt order k) refl o)
+      (λ o. rw (applied-closed J order table lost ends m k t o)
         (applied-kept more m (suc k) t table ends (omega arith) (storing-closed few c h (omega arith) o)))
 
 module _ {J : Jobs} {S : List Bool} {order table lost ends : List ℕ} {x : ℕ} (passes : Passes J) (long : length S ≡ J .horizon) (ranks : RankedJobs J order) (kept : Kept J S table lost ends) (inside : x < J .horizon) (sleeps : awake S x ≡ false) where
