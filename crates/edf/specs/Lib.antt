@@ -18,6 +18,7 @@ pub mod Table
 pub mod FromState
 pub mod Whole
 pub mod Sets
+pub mod Woken
 pub mod Room
 pub mod Overload
 pub mod Theorems
