@@ -67,10 +67,10 @@ gains J order lost ends (suc m) k t =
     elim (isOpen J lost ends t (jobAt order k)) [
       | false ↦ gains J order lost ends m (suc k) t
       | true ↦
-        elim (ltb 0 (getD lost (jobAt order k) 0)) [
-          | true ↦ true
-          | false ↦ gains J order lost ends m (suc k) (getD ends (jobAt order k) 0 - 1)
-        ]
+          elim (ltb 0 (getD lost (jobAt order k) 0)) [
+            | true ↦ true
+            | false ↦ gains J order lost ends m (suc k) (getD ends (jobAt order k) 0 - 1)
+          ]
     ]
 
 unfoldable pub chainHelps : Jobs → List ℕ → List ℕ → List ℕ → ℕ → Bool
@@ -101,12 +101,12 @@ applied J order (suc m) k t table lost ends =
     elim (isOpen J lost ends t (jobAt order k)) [
       | false ↦ applied J order m (suc k) t table lost ends
       | true ↦
-        elim (ltb 0 (getD lost (jobAt order k) 0)) [
-          | true ↦ gained (jobAt order k) t table lost ends
-          | false ↦
-            applied J order m (suc k) (getD ends (jobAt order k) 0 - 1) (set table t (jobAt order k)) lost
-            (givenUp (jobAt order k) (set table t (jobAt order k)) ends)
-        ]
+          elim (ltb 0 (getD lost (jobAt order k) 0)) [
+            | true ↦ gained (jobAt order k) t table lost ends
+            | false ↦
+                applied J order m (suc k) (getD ends (jobAt order k) 0 - 1) (set table t (jobAt order k)) lost
+                (givenUp (jobAt order k) (set table t (jobAt order k)) ends)
+          ]
     ]
 
 unfoldable pub chainApply : Jobs → List ℕ → List ℕ → List ℕ → List ℕ → ℕ → Books

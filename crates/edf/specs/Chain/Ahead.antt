@@ -217,8 +217,8 @@ module _ {J : Jobs} {order lost : List ℕ} {S S′ : ℕ → Bool} {x : ℕ} (c
         none-sooner : (i : ℕ) → i < k → Eligible (spans J) w (leftOf J S (suc w)) (jobAt order i) → ⊥
         none-sooner i l e =
             let same : leftOf J S (suc w) (jobAt order i) ≡ leftOf J S w (jobAt order i) =
-              ap (λ (L : State). L (jobAt order i)) (served-lowers (spans J) S (volume J) w (jobAt order k) gives)
-              ∙ lowered-elsewhere (leftOf J S w) (jobAt order k) (jobAt order i) (ranks-differ (c .ranks) i k l below) in
+            ap (λ (L : State). L (jobAt order i)) (served-lowers (spans J) S (volume J) w (jobAt order k) gives)
+            ∙ lowered-elsewhere (leftOf J S w) (jobAt order k) (jobAt order i) (ranks-differ (c .ranks) i k l below) in
             let able = eligible-with (spans J) w (leftOf J S (suc w)) (leftOf J S w) (jobAt order i) e (omega (arith, e .unit)) in
             let first = served-first (spans J) S (volume J) w (jobAt order k) gives .1 .first (jobAt order i) able in
             let s = c .ranks .rising i k l below in

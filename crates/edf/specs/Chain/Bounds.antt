@@ -36,7 +36,7 @@ applied-lengths J order (suc m) k t table lost ends =
   where
     go : isOpen J lost ends t (jobAt order k) ≡ true → Dec (0 < getD lost (jobAt order k) 0) →
         SameLengths (books (set table t (jobAt order k)) lost (givenUp (jobAt order k) (set table t (jobAt order k)) ends))
-          (applied J order m (suc k) (getD ends (jobAt order k) 0 - 1) (set table t (jobAt order k)) lost (givenUp (jobAt order k) (set table t (jobAt order k)) ends)) →
+        (applied J order m (suc k) (getD ends (jobAt order k) 0 - 1) (set table t (jobAt order k)) lost (givenUp (jobAt order k) (set table t (jobAt order k)) ends)) →
         SameLengths (books table lost ends) (applied J order (suc m) k t table lost ends)
     go o (yes u) ih =
         rw (applied-lost J order table lost ends m k t o u)

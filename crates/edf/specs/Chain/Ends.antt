@@ -116,8 +116,8 @@ module _ (table : List ℕ) (s v : ℕ) (inside : s < length table) where
       end-lower j s (set table s v) (λ e. f (sym e ∙ getD-set-same table s v 0 inside))
       ∙ sym
       (end-is j s (set table s v) (endBelow j s table)
-        (ends-alike j s table (set table s v) (endBelow j s table) (λ t l e. getD-set-other table s t v 0 (omega arith) ∙ e)
-          (λ t l e. sym (getD-set-other table s t v 0 (omega arith)) ∙ e) (ends-below j s table)))
+      (ends-alike j s table (set table s v) (endBelow j s table) (λ t l e. getD-set-other table s t v 0 (omega arith) ∙ e)
+      (λ t l e. sym (getD-set-other table s t v 0 (omega arith)) ∙ e) (ends-below j s table)))
 
 -- Slot t, which holds no job, takes job j; and slot w, which job j gives up for it, is left blank.
 

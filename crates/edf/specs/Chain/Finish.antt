@@ -54,8 +54,12 @@ module _ {J : Jobs} {S : List Bool} {table lost ends : List ℕ} (passes : Passe
   -- The units lost are those by which the workable volume falls short.
   pub kept-volume : workable J S + sumBelow (count J) (λ j. getD lost j 0) ≡ totalVolume J
   kept-volume =
-      omega (arith, workable-is-edf J S long, served-and-lost J (passes .same-volumes) S,
-        sum-ext (count J) (λ j. getD lost j 0) (leftOf J (awake S) (J .horizon)) (kept-loses kept (omega (arith, passes .few))))
+      omega (
+        arith,
+        workable-is-edf J S long,
+        served-and-lost J (passes .same-volumes) S,
+        sum-ext (count J) (λ j. getD lost j 0) (leftOf J (awake S) (J .horizon)) (kept-loses kept (omega (arith, passes .few))),
+      )
 
   -- Where nothing is lost, the table is the one that step 4 writes.
   pub kept-table : workable J S ≡ totalVolume J → table ≡ tableOf J S

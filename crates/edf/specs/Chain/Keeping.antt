@@ -29,8 +29,11 @@ runByteAt J S t = byteOf (spans J) S (volume J) t
 pub times-left : (J : Jobs) → count J ≤ 254 → (S : ℕ → Bool) (j : ℕ) → j < count J → volume J j - times j (runBytes J S) ≡ leftOf J S (J .horizon) j
 unfolding left
 times-left J few S j below =
-    omega (arith, bytes-times J few S (J .horizon) 0 (volume J) j below,
-      ap (λ (L : State). L j) (final-left (spans J) S (volume J) (J .horizon) 0 (J .horizon) (omega arith)))
+    omega (
+      arith,
+      bytes-times J few S (J .horizon) 0 (volume J) j below,
+      ap (λ (L : State). L j) (final-left (spans J) S (volume J) (J .horizon) 0 (J .horizon) (omega arith)),
+    )
 
 -- A run that leaves its units in lost, and whose last slots are in ends, is kept.
 pub kept-start : (J : Jobs) → count J ≤ 254 → (S : List Bool) (lost ends : List ℕ) → count J ≤ length lost → count J ≤ length ends →

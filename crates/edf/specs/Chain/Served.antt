@@ -95,7 +95,7 @@ module _ {F : Spans} {S : ℕ → Bool} {p : State} {H j e : ℕ} where
   left-after-last c t a b =
       sym
       (le-ind (λ m. m ≤ H → left F S p m j ≡ left F S p t j) (λ _. refl)
-        (λ m q ih l. unserved-keeps F S p m j (c .last m (omega arith) l) ∙ ih (omega arith)) H b (omega arith))
+      (λ m q ih l. unserved-keeps F S p m j (c .last m (omega arith) l) ∙ ih (omega arith)) H b (omega arith))
 
   pub left-before-last : LastServed F S p H j e → (t : ℕ) → t < e → 0 < left F S p t j
   left-before-last c t l = go e refl l

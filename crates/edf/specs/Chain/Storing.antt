@@ -97,15 +97,15 @@ module _ {J : Jobs} (few : count J ≤ 254) {order lost : List ℕ} {S S′ : �
         let from : getD ends (jobAt order k) 0 - 1 ≡ w = omega arith in
         record {
           come = ahead-on c (h .come) below is-open none-lost given
-            (λ i l b. getD-set-other ends (jobAt order k) (jobAt order i) _ 0 (λ e. ranks-differ (c .ranks) k i l b (sym e)));
+              (λ i l b. getD-set-other ends (jobAt order k) (jobAt order i) _ 0 (λ e. ranks-differ (c .ranks) k i l b (sym e)));
           table-long = stored-long;
           ends-long = rw length-set (h .ends-long);
           done = stored-to w (omega arith) (given-alike c (h .come) below is-open none-lost given);
           to-do = λ s l m. getD-set-other table t s (jobAt order k) 0 (omega arith) ∙ h .to-do s (omega arith) m;
           ends-are =
-            set-ends (endBelow (jobAt order k) (getD ends (jobAt order k) 0 - 1) (stored order k t table)) (set (stored order k t table) w asleep)
-            (rw from (ends-blank (J .horizon) (stored order k t table) stored-long asleep (jobAt order k) w inside no-job (rw top at own-ends)))
-            (λ i l f.
+              set-ends (endBelow (jobAt order k) (getD ends (jobAt order k) 0 - 1) (stored order k t table)) (set (stored order k t table) w asleep)
+              (rw from (ends-blank (J .horizon) (stored order k t table) stored-long asleep (jobAt order k) w inside no-job (rw top at own-ends)))
+              (λ i l f.
               ends-unblanked (J .horizon) (stored order k t table) stored-long asleep (jobAt order k) w inside i f (omega arith) (own-ends .holds w top)
               (getD ends i 0) (other-ends i l f));
         }
@@ -119,7 +119,7 @@ module _ {J : Jobs} (few : count J ≤ 254) {order lost : List ℕ} {S S′ : �
       gained-table =
           ext-getD 0 (stored order k t table) (runBytes J S′) (stored-long ∙ sym (bytes-long (spans J) S′ (J .horizon) 0 (volume J)))
           (λ s l. let m : s < J .horizon = omega (arith, stored-long) in
-            stored-to (J .horizon) (omega arith) alike s m ∙ sym (table-byte (spans J) S′ (volume J) (J .horizon) s m))
+          stored-to (J .horizon) (omega arith) alike s m ∙ sym (table-byte (spans J) S′ (volume J) (J .horizon) s m))
 
       pub gained-lost : count J ≤ length lost → (i : ℕ) → i < count J → getD (set lost (jobAt order k) (getD lost (jobAt order k) 0 - 1)) i 0 ≡ leftOf J S′ (J .horizon) i
       gained-lost long i l = go (ℕ-discrete i (jobAt order k))
@@ -128,7 +128,7 @@ module _ {J : Jobs} (few : count J ≤ 254) {order lost : List ℕ} {S S′ : �
           go (yes e) =
               rw e
               (getD-set-same lost (jobAt order k) (getD lost (jobAt order k) 0 - 1) 0 (omega (arith, c .ranks .known k below))
-                ∙ omega (arith, c .loses (jobAt order k) (c .ranks .known k below), alike .apart .there))
+              ∙ omega (arith, c .loses (jobAt order k) (c .ranks .known k below), alike .apart .there))
           go (no f) =
               getD-set-other lost (jobAt order k) i (getD lost (jobAt order k) 0 - 1) 0 f ∙ c .loses i l ∙ alike .apart .elsewhere i f
 
@@ -137,4 +137,4 @@ module _ {J : Jobs} (few : count J ≤ 254) {order lost : List ℕ} {S S′ : �
   gained-ends i l =
       rw stored-long
       (end-is i (J .horizon) (stored order k t table) _
-        (set-ends (max (getD ends (jobAt order k) 0) (suc t)) (stored order k t table) own-ends other-ends i l))
+      (set-ends (max (getD ends (jobAt order k) 0) (suc t)) (stored order k t table) own-ends other-ends i l))

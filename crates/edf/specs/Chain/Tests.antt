@@ -28,15 +28,23 @@ volumeOf J S = vol (spans J) S (J .horizon) 0 (volume J)
 
 apart-volume : (J : Jobs) (S S′ : ℕ → Bool) (j : ℕ) → j < count J → OneMore j (leftOf J S (J .horizon)) (leftOf J S′ (J .horizon)) → volumeOf J S′ ≡ suc (volumeOf J S)
 apart-volume J S S′ j l o =
-    omega (arith, vol-and-left (spans J) S (volume J) (J .horizon), vol-and-left (spans J) S′ (volume J) (J .horizon),
-      sum-one-more (count J) j (leftOf J S (J .horizon)) (leftOf J S′ (J .horizon)) l o)
+    omega (
+      arith,
+      vol-and-left (spans J) S (volume J) (J .horizon),
+      vol-and-left (spans J) S′ (volume J) (J .horizon),
+      sum-one-more (count J) j (leftOf J S (J .horizon)) (leftOf J S′ (J .horizon)) l o,
+    )
 
 -- past the last rank nothing was gained
 pub met-volume : {J : Jobs} {order lost ends : List ℕ} {S S′ : ℕ → Bool} {x k t : ℕ} → Waking J order lost S S′ x → Ahead J order ends S S′ x k t → count J ≤ k →
     volumeOf J S′ ≡ volumeOf J S
 met-volume {J} {order} {lost} {ends} {S} {S′} c h l =
-    omega (arith, vol-and-left (spans J) S (volume J) (J .horizon), vol-and-left (spans J) S′ (volume J) (J .horizon),
-      ap (λ (L : State). allUnits (spans J) L) (ahead-end c h l))
+    omega (
+      arith,
+      vol-and-left (spans J) S (volume J) (J .horizon),
+      vol-and-left (spans J) S′ (volume J) (J .horizon),
+      ap (λ (L : State). allUnits (spans J) L) (ahead-end c h l),
+    )
 
 module _ {J : Jobs} {order lost : List ℕ} {S S′ : ℕ → Bool} {x : ℕ} (c : Waking J order lost S S′ x) (ends : List ℕ) where
   abbrev Found : ℕ → ℕ → ℕ → Type 0

@@ -36,7 +36,7 @@ module _ {J : Jobs} (few : count J ≤ 254) {order lost : List ℕ} (lost-long :
         lost-long = rw length-set lost-long;
         ends-long = rw length-set (h .ends-long);
         lost-is = λ i l.
-          gained-lost few c h below o u lost-long i l ∙ sym (times-left J few (awake T) i l) ∙ ap (λ (b : List ℕ). volume J i - times i b) (sym same);
+            gained-lost few c h below o u lost-long i l ∙ sym (times-left J few (awake T) i l) ∙ ap (λ (b : List ℕ). volume J i - times i b) (sym same);
         ends-is = gained-ends few c h below;
       }
 
@@ -64,7 +64,7 @@ module _ {J : Jobs} (few : count J ≤ 254) {order lost : List ℕ} (lost-long :
       by-bool (isOpen J lost ends t (jobAt order k))
       (λ o. open-turn m k t table ends h (omega arith) o (λ w table ends. applied-kept more m (suc k) w table ends (omega arith)))
       (λ o. rw (applied-closed J order table lost ends m k t o)
-        (applied-kept more m (suc k) t table ends (omega arith) (storing-closed few c h (omega arith) o)))
+      (applied-kept more m (suc k) t table ends (omega arith) (storing-closed few c h (omega arith) o)))
 
 module _ {J : Jobs} {S : List Bool} {order table lost ends : List ℕ} {x : ℕ} (passes : Passes J) (long : length S ≡ J .horizon) (ranks : RankedJobs J order) (kept : Kept J S table lost ends) (inside : x < J .horizon) (sleeps : awake S x ≡ false) where
   -- slot x is blank as it stands
@@ -80,7 +80,7 @@ module _ {J : Jobs} {S : List Bool} {order table lost ends : List ℕ} {x : ℕ}
         table-long = kept-long kept;
         ends-long = kept .ends-long;
         done = λ s l.
-          kept-byte kept s (omega arith) ∙ before-byte (spans J) (volume J) (waking kept passes long ranks inside sleeps .extra) s l;
+            kept-byte kept s (omega arith) ∙ before-byte (spans J) (volume J) (waking kept passes long ranks inside sleeps .extra) s l;
         to-do = λ s l m. kept-byte kept s m;
         ends-are = λ j l. rw blank (kept-ends kept j l);
       }
