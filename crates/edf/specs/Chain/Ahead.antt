@@ -25,13 +25,13 @@ use Rattle.edf.specs.Chain.Alike.{chosen-is, chosen-none, AlikeTo, alike
 
 -- The test for an open job
 
-pub record Opened (J : Jobs) (lost ends : List ℕ) (t j : ℕ) : Type 0 where
-  pub released : release J j ≤ t
-  pub before : t < deadline J j
+pub record Opened (releases deadlines lost ends : List ℕ) (t j : ℕ) : Type 0 where
+  pub released : getD releases j 0 ≤ t
+  pub before : t < getD deadlines j 0
   pub unit : (0 < getD lost j 0) ⊎ (t < getD ends j 0)
 
-module _ (J : Jobs) (lost ends : List ℕ) (t j : ℕ) where
-  pub opened : isOpen J lost ends t j ≡ true → Opened J lost ends t j
+module _ (releases deadlines lost ends : List ℕ) (t j : ℕ) where
+  pub opened : isOpen releases deadlines lost ends t j ≡ true → Opened releases deadlines lost ends t j
   opened e =
       let (ab, c) = and-true _ _ e in
       let (a, b) = and-true _ _ ab in
@@ -41,7 +41,7 @@ module _ (J : Jobs) (lost ends : List ℕ) (t j : ℕ) where
       go (inl q) = inl (ltb-true _ _ q)
       go (inr q) = inr (ltb-true _ _ q)
 
-  pub open-if : Opened J lost ends t j → isOpen J lost ends t j ≡ true
+  pub open-if : Opened releases deadlines lost ends t j → isOpen releases deadlines lost ends t j ≡ true
   open-if o = simp (le-leb _ _ (o .released), lt-ltb _ _ (o .before)) (go (o .unit))
     where
       go : (0 < getD lost j 0) ⊎ (t < getD ends j 0) → ltb 0 (getD lost j 0) || ltb t (getD ends j 0) ≡ true
@@ -49,8 +49,11 @@ module _ (J : Jobs) (lost ends : List ℕ) (t j : ℕ) where
       go (inr u) = or-right (ltb 0 (getD lost j 0)) (ltb t (getD ends j 0)) (lt-ltb _ _ u)
 
   -- an open job without lost units has its last slot at t or later
-  pub open-ends : isOpen J lost ends t j ≡ true → getD lost j 0 ≡ 0 → t < getD ends j 0
+  pub open-ends : isOpen releases deadlines lost ends t j ≡ true → getD lost j 0 ≡ 0 → t < getD ends j 0
   open-ends e z = ⊎-elim (λ u. absurd (omega arith)) (λ u. u) (opened e .unit)
+
+abbrev pub openIn : Jobs → List ℕ → List ℕ → ℕ → ℕ → Bool
+openIn J lost ends t j = isOpen (J .releases) (J .deadlines) lost ends t j
 
 -- Ranks
 
@@ -128,9 +131,9 @@ module _ {J : Jobs} {order lost : List ℕ} {S S′ : ℕ → Bool} {x : ℕ} (c
         go (no f) = omega arith
 
     -- open at t is who has a unit left after t
-    open-able : isOpen J lost ends t (jobAt order k) ≡ true → Eligible (spans J) t (leftOf J S (suc t)) (jobAt order k)
+    open-able : openIn J lost ends t (jobAt order k) ≡ true → Eligible (spans J) t (leftOf J S (suc t)) (jobAt order k)
     open-able e =
-        let o = opened J lost ends t (jobAt order k) e in
+        let o = opened (J .releases) (J .deadlines) lost ends t (jobAt order k) e in
         record { below = c .ranks .known k below; released = o .released; before = o .before; unit = go (o .unit) }
       where
         go : (0 < getD lost (jobAt order k) 0) ⊎ (t < getD ends (jobAt order k) 0) → 0 < leftOf J S (suc t) (jobAt order k)
@@ -138,9 +141,9 @@ module _ {J : Jobs} {order lost : List ℕ} {S S′ : ℕ → Bool} {x : ℕ} (c
             omega (arith, lost-units, left-falls (spans J) S (volume J) (suc t) (J .horizon) (jobAt order k) (h .inside))
         go (inr u) = left-before-last last-slot (suc t) (ends-later u)
 
-    able-open : Eligible (spans J) t (leftOf J S (suc t)) (jobAt order k) → isOpen J lost ends t (jobAt order k) ≡ true
+    able-open : Eligible (spans J) t (leftOf J S (suc t)) (jobAt order k) → openIn J lost ends t (jobAt order k) ≡ true
     able-open e =
-        open-if J lost ends t (jobAt order k)
+        open-if (J .releases) (J .deadlines) lost ends t (jobAt order k)
         (record { released = e .released; before = e .before; unit = go (decLt t (getD ends (jobAt order k) 0)) })
       where
         go : Dec (t < getD ends (jobAt order k) 0) → (0 < getD lost (jobAt order k) 0) ⊎ (t < getD ends (jobAt order k) 0)
@@ -149,7 +152,7 @@ module _ {J : Jobs} {order lost : List ℕ} {S S′ : ℕ → Bool} {x : ℕ} (c
             inl (omega (arith, e .unit, lost-units, left-after-last last-slot (suc t) (omega arith) (h .inside)))
 
     -- a job that is not open is passed
-    pub ahead-closed : isOpen J lost ends t (jobAt order k) ≡ false → Ahead J order ends S S′ x (suc k) t
+    pub ahead-closed : openIn J lost ends t (jobAt order k) ≡ false → Ahead J order ends S S′ x (suc k) t
     ahead-closed e =
         record {
           from = h .from;
@@ -163,10 +166,10 @@ module _ {J : Jobs} {order lost : List ℕ} {S S′ : ℕ → Bool} {x : ℕ} (c
       where
         go : (i : ℕ) → (i < k) ⊎ (i ≡ k) → Eligible (spans J) t (leftOf J S (suc t)) (jobAt order i) → ⊥
         go i (inl l) = h .passed i l
-        go i (inr q) = rw q (λ a. true-not-false (isOpen J lost ends t (jobAt order k)) (able-open a) e)
+        go i (inr q) = rw q (λ a. true-not-false (openIn J lost ends t (jobAt order k)) (able-open a) e)
 
     -- the first open job is the one that the woken run serves at t
-    module _ (is-open : isOpen J lost ends t (jobAt order k) ≡ true) where
+    module _ (is-open : openIn J lost ends t (jobAt order k) ≡ true) where
       takes : Chosen (spans J) t (leftOf J S (suc t)) (jobAt order k)
       takes = record { able = open-able is-open; first = λ j e. go j e (c .ranks .ranked j (e .below)) }
         where
@@ -197,7 +200,7 @@ module _ {J : Jobs} {order lost : List ℕ} {S S′ : ℕ → Bool} {x : ℕ} (c
       -- or the job gives up its last slot w, and the chain has come there
       module _ (none-lost : getD lost (jobAt order k) 0 ≡ 0) {w : ℕ} (given : getD ends (jobAt order k) 0 ≡ suc w) where
         pub given-later : t < w
-        given-later = omega (arith, ends-later (open-ends J lost ends t (jobAt order k) is-open none-lost))
+        given-later = omega (arith, ends-later (open-ends (J .releases) (J .deadlines) lost ends t (jobAt order k) is-open none-lost))
 
         gives : servedBy J S w ≡ some (jobAt order k)
         gives = last-slot .serves w given

@@ -17,7 +17,7 @@ use Rattle.edf.specs.Pick.{View, view}
 use Rattle.edf.specs.Chain.{jobAt, RankedJobs, Kept, isOpen, endBelow, endOf, Books, books, givenUp, applied, chainApply}
 use Rattle.edf.specs.Chain.Ends.{ends-below}
 use Rattle.edf.specs.Chain.Turns.{applied-closed, applied-lost, applied-on}
-use Rattle.edf.specs.Chain.Ahead.{Waking, Ahead, open-ends, given-later}
+use Rattle.edf.specs.Chain.Ahead.{openIn, Waking, Ahead, open-ends, given-later}
 use Rattle.edf.specs.Chain.Keeping.{kept-long, kept-byte, kept-ends}
 
 -- Lengths
@@ -27,62 +27,62 @@ pub record SameLengths (b c : Books) : Type 0 where
   pub same-lost : length (c .lost) ≡ length (b .lost)
   pub same-ends : length (c .ends) ≡ length (b .ends)
 
-applied-lengths : (J : Jobs) (order : List ℕ) (m k t : ℕ) (table lost ends : List ℕ) → SameLengths (books table lost ends) (applied J order m k t table lost ends)
+pub applied-lengths : (releases deadlines order : List ℕ) (m k t : ℕ) (table lost ends : List ℕ) → SameLengths (books table lost ends) (applied releases deadlines order m k t table lost ends)
 unfolding applied
-applied-lengths J order zero k t table lost ends = record { same-table = refl; same-lost = refl; same-ends = refl }
-applied-lengths J order (suc m) k t table lost ends =
-    by-bool (isOpen J lost ends t (jobAt order k)) (λ o. go o (decLt 0 (getD lost (jobAt order k) 0)) (applied-lengths J order m (suc k) _ _ lost _))
-    (λ o. rw (applied-closed J order table lost ends m k t o) (applied-lengths J order m (suc k) t table lost ends))
+applied-lengths releases deadlines order zero k t table lost ends = record { same-table = refl; same-lost = refl; same-ends = refl }
+applied-lengths releases deadlines order (suc m) k t table lost ends =
+    by-bool (isOpen releases deadlines lost ends t (jobAt order k)) (λ o. go o (decLt 0 (getD lost (jobAt order k) 0)) (applied-lengths releases deadlines order m (suc k) _ _ lost _))
+    (λ o. rw (applied-closed releases deadlines order table lost ends m k t o) (applied-lengths releases deadlines order m (suc k) t table lost ends))
   where
-    go : isOpen J lost ends t (jobAt order k) ≡ true → Dec (0 < getD lost (jobAt order k) 0) →
+    go : isOpen releases deadlines lost ends t (jobAt order k) ≡ true → Dec (0 < getD lost (jobAt order k) 0) →
         SameLengths (books (set table t (jobAt order k)) lost (givenUp (jobAt order k) (set table t (jobAt order k)) ends))
-        (applied J order m (suc k) (getD ends (jobAt order k) 0 - 1) (set table t (jobAt order k)) lost (givenUp (jobAt order k) (set table t (jobAt order k)) ends)) →
-        SameLengths (books table lost ends) (applied J order (suc m) k t table lost ends)
+        (applied releases deadlines order m (suc k) (getD ends (jobAt order k) 0 - 1) (set table t (jobAt order k)) lost (givenUp (jobAt order k) (set table t (jobAt order k)) ends)) →
+        SameLengths (books table lost ends) (applied releases deadlines order (suc m) k t table lost ends)
     go o (yes u) ih =
-        rw (applied-lost J order table lost ends m k t o u)
+        rw (applied-lost releases deadlines order table lost ends m k t o u)
         (record { same-table = simp length-set; same-lost = simp length-set; same-ends = simp length-set })
     go o (no f) ih =
-        rw (applied-on J order table lost ends m k t o (omega arith))
+        rw (applied-on releases deadlines order table lost ends m k t o (omega arith))
         (record { same-table = ih .same-table ∙ simp length-set; same-lost = ih .same-lost; same-ends = ih .same-ends ∙ simp length-set })
 
 pub chain-lengths : (J : Jobs) (order table lost ends : List ℕ) (x : ℕ) → SameLengths (books table lost ends) (chainApply J order table lost ends x)
 unfolding chainApply
-chain-lengths J order table lost ends x = applied-lengths J order (count J) 0 x table lost ends
+chain-lengths J order table lost ends x = applied-lengths (J .releases) (J .deadlines) order (count J) 0 x table lost ends
 
 -- Slots of the chain lie in the table
 
--- slot t is one of the table's, and so is each job's last
-pub record Fits (J : Jobs) (t : ℕ) (table ends : List ℕ) : Type 0 where
-  pub inside : t < J .horizon
-  pub table-long : length table ≡ J .horizon
-  pub ends-long : count J ≤ length ends
-  pub ends-within : (j : ℕ) → j < count J → getD ends j 0 ≤ J .horizon
+-- slot t is one of h, and so is the last of each of n jobs
+pub record Fits (h n t : ℕ) (table ends : List ℕ) : Type 0 where
+  pub inside : t < h
+  pub table-long : length table ≡ h
+  pub ends-long : n ≤ length ends
+  pub ends-within : (j : ℕ) → j < n → getD ends j 0 ≤ h
 
-pub fits-start : {J : Jobs} {S : List Bool} {table lost ends : List ℕ} → Kept J S table lost ends → (x : ℕ) → x < J .horizon → Fits J x table ends
+pub fits-start : {J : Jobs} {S : List Bool} {table lost ends : List ℕ} → Kept J S table lost ends → (x : ℕ) → x < J .horizon → Fits (J .horizon) (count J) x table ends
 fits-start kept x l =
     record { inside = l; table-long = kept-long kept; ends-long = kept .ends-long; ends-within = λ j b. kept-ends kept j b .within }
 
-pub fits-on : (J : Jobs) (lost : List ℕ) {t j : ℕ} {table ends : List ℕ} → Fits J t table ends → j < count J → isOpen J lost ends t j ≡ true → getD lost j 0 ≡ 0 →
-    Fits J (getD ends j 0 - 1) (set table t j) (givenUp j (set table t j) ends)
-fits-on J lost {t} {j} {table} {ends} h b o z =
+pub fits-on : (releases deadlines lost : List ℕ) {h n t j : ℕ} {table ends : List ℕ} → Fits h n t table ends → j < n → isOpen releases deadlines lost ends t j ≡ true → getD lost j 0 ≡ 0 →
+    Fits h n (getD ends j 0 - 1) (set table t j) (givenUp j (set table t j) ends)
+fits-on releases deadlines lost {h} {n} {t} {j} {table} {ends} f b o z =
     record {
-      inside = omega (arith, h .ends-within j b, open-ends J lost ends t j o z);
-      table-long = length-set table t j ∙ h .table-long;
-      ends-long = rw length-set (h .ends-long);
+      inside = omega (arith, f .ends-within j b, open-ends releases deadlines lost ends t j o z);
+      table-long = length-set table t j ∙ f .table-long;
+      ends-long = rw length-set (f .ends-long);
       ends-within = λ i l. go i l (ℕ-discrete i j);
     }
   where
-    go : (i : ℕ) → i < count J → Dec (i ≡ j) → getD (givenUp j (set table t j) ends) i 0 ≤ J .horizon
+    go : (i : ℕ) → i < n → Dec (i ≡ j) → getD (givenUp j (set table t j) ends) i 0 ≤ h
     go i l (yes e) =
-        rw (e, getD-set-same ends j (endBelow j (getD ends j 0 - 1) (set table t j)) 0 (omega (arith, h .ends-long)))
-        (omega (arith, ends-below j (getD ends j 0 - 1) (set table t j) .within, h .ends-within j b))
-    go i l (no f) = rw (getD-set-other ends j i (endBelow j (getD ends j 0 - 1) (set table t j)) 0 f) (h .ends-within i l)
+        rw (e, getD-set-same ends j (endBelow j (getD ends j 0 - 1) (set table t j)) 0 (omega (arith, f .ends-long)))
+        (omega (arith, ends-below j (getD ends j 0 - 1) (set table t j) .within, f .ends-within j b))
+    go i l (no g) = rw (getD-set-other ends j i (endBelow j (getD ends j 0 - 1) (set table t j)) 0 g) (f .ends-within i l)
 
 -- a job that gives up its last slot has another below it: the one just stored
 pub given-above : {J : Jobs} {order lost ends : List ℕ} {S S′ : ℕ → Bool} {x k t : ℕ} → Waking J order lost S S′ x → Ahead J order ends S S′ x k t → k < count J →
-    isOpen J lost ends t (jobAt order k) ≡ true → getD lost (jobAt order k) 0 ≡ 0 → t < getD ends (jobAt order k) 0 - 1
+    openIn J lost ends t (jobAt order k) ≡ true → getD lost (jobAt order k) 0 ≡ 0 → t < getD ends (jobAt order k) 0 - 1
 given-above {J} {order} {lost} {ends} {S} {S′} {x} {k} {t} c h b o z =
-    given-later c h b o z {w = getD ends (jobAt order k) 0 - 1} (omega (arith, open-ends J lost ends t (jobAt order k) o z))
+    given-later c h b o z {w = getD ends (jobAt order k) 0 - 1} (omega (arith, open-ends (J .releases) (J .deadlines) lost ends t (jobAt order k) o z))
 
 -- Jobs and bytes are small
 

@@ -12,11 +12,11 @@ use Rattle.sched.specs.Jobs.{Jobs, count, volume}
 use Rattle.sched.specs.Slots.{awake, asleep, times}
 use Rattle.edf.specs.Run.{spans}
 use Rattle.edf.specs.Placements.{bytes-long}
-use Rattle.edf.specs.Chain.{jobAt, Kept, isOpen, endBelow, endOf, Books, gained, givenUp}
+use Rattle.edf.specs.Chain.{jobAt, Kept, endBelow, endOf, Books, gained, givenUp}
 use Rattle.edf.specs.Chain.Ends.{Ends, end-is, ends-gained, ends-kept, ends-blank, ends-unblanked}
 use Rattle.edf.specs.Chain.Served.{table-byte, serves-byte}
 use Rattle.edf.specs.Chain.Alike.{alike-byte}
-use Rattle.edf.specs.Chain.Ahead.{leftOf, Alike, Waking, Ahead, ranks-differ, ahead-closed, serves-there, gained-alike, given-later, given-alike, ahead-on}
+use Rattle.edf.specs.Chain.Ahead.{openIn, leftOf, Alike, Waking, Ahead, ranks-differ, ahead-closed, serves-there, gained-alike, given-later, given-alike, ahead-on}
 use Rattle.edf.specs.Chain.Keeping.{runBytes, runByteAt, times-left}
 
 -- Below t the table is that of the woken run, above it that of the other, and slot t is to be stored. The ends are those of the table
@@ -34,7 +34,7 @@ abbrev pub stored : List ℕ → ℕ → ℕ → List ℕ → List ℕ
 stored order k t table = set table t (jobAt order k)
 
 module _ {J : Jobs} (few : count J ≤ 254) {order lost : List ℕ} {S S′ : ℕ → Bool} {x : ℕ} (c : Waking J order lost S S′ x) {k t : ℕ} {table ends : List ℕ} (h : Storing J order S S′ x k t table ends) (below : k < count J) where
-  pub storing-closed : isOpen J lost ends t (jobAt order k) ≡ false → Storing J order S S′ x (suc k) t table ends
+  pub storing-closed : openIn J lost ends t (jobAt order k) ≡ false → Storing J order S S′ x (suc k) t table ends
   storing-closed o =
       record {
         come = ahead-closed c (h .come) below o;
@@ -71,7 +71,7 @@ module _ {J : Jobs} (few : count J ≤ 254) {order lost : List ℕ} {S S′ : �
           rw (e, getD-set-same ends (jobAt order k) v 0 (omega (arith, h .ends-long, c .ranks .known k below))) own
       go (no f) = rw (getD-set-other ends (jobAt order k) i v 0 f) (others i l f)
 
-  module _ (is-open : isOpen J lost ends t (jobAt order k) ≡ true) where
+  module _ (is-open : openIn J lost ends t (jobAt order k) ≡ true) where
     here : runByteAt J S′ t ≡ jobAt order k
     here = serves-byte (spans J) S′ (volume J) t (jobAt order k) (serves-there c (h .come) below is-open)
 

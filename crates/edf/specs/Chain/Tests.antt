@@ -17,9 +17,9 @@ use Rattle.edf.specs.Run.{State, spans, vol, allUnits, edfVolume}
 use Rattle.edf.specs.Units.{OneMore, sum-one-more}
 use Rattle.edf.specs.Left.{vol-and-left}
 use Rattle.edf.specs.Theorems.{workable-is-edf}
-use Rattle.edf.specs.Chain.{jobAt, RankedJobs, Kept, isOpen, gains, chainHelps}
+use Rattle.edf.specs.Chain.{jobAt, RankedJobs, Kept, gains, chainHelps}
 use Rattle.edf.specs.Chain.Turns.{gains-closed, gains-lost, gains-on}
-use Rattle.edf.specs.Chain.Ahead.{leftOf, Waking, Ahead, open-ends, ahead-closed, ahead-on, ahead-end, gained-alike}
+use Rattle.edf.specs.Chain.Ahead.{openIn, leftOf, Waking, Ahead, open-ends, ahead-closed, ahead-on, ahead-end, gained-alike}
 use Rattle.edf.specs.Chain.Keeping.{waking, starts-ahead}
 
 -- the units that the run of S serves
@@ -48,31 +48,31 @@ met-volume {J} {order} {lost} {ends} {S} {S′} c h l =
 
 module _ {J : Jobs} {order lost : List ℕ} {S S′ : ℕ → Bool} {x : ℕ} (c : Waking J order lost S S′ x) (ends : List ℕ) where
   abbrev Found : ℕ → ℕ → ℕ → Type 0
-  Found m k t = gains J order lost ends m k t ≡ eqb (volumeOf J S′) (suc (volumeOf J S))
+  Found m k t = gains (J .releases) (J .deadlines) order lost ends m k t ≡ eqb (volumeOf J S′) (suc (volumeOf J S))
 
   -- the open job of rank k ends the chain or hands it on
-  open-turn : (m k t : ℕ) → Ahead J order ends S S′ x k t → k < count J → isOpen J lost ends t (jobAt order k) ≡ true →
+  open-turn : (m k t : ℕ) → Ahead J order ends S S′ x k t → k < count J → openIn J lost ends t (jobAt order k) ≡ true →
       ((w : ℕ) → Ahead J order ends S S′ x (suc k) w → Found m (suc k) w) → Found (suc m) k t
   open-turn m k t h below o later = go (decLt 0 (getD lost (jobAt order k) 0))
     where
       go : Dec (0 < getD lost (jobAt order k) 0) → Found (suc m) k t
       go (yes u) =
-          gains-lost J order lost ends m k t o u
+          gains-lost (J .releases) (J .deadlines) order lost ends m k t o u
           ∙ sym (eq-eqb (volumeOf J S′) (suc (volumeOf J S)) (apart-volume J S S′ (jobAt order k) (c .ranks .known k below) (gained-alike c h below o u .apart)))
       go (no f) =
           let z : getD lost (jobAt order k) 0 ≡ 0 = omega arith in
           let w = getD ends (jobAt order k) 0 - 1 in
-          let q : getD ends (jobAt order k) 0 ≡ suc w = omega (arith, open-ends J lost ends t (jobAt order k) o z) in
-          gains-on J order lost ends m k t o z ∙ later w (ahead-on c h below o z q (λ i a b. refl))
+          let q : getD ends (jobAt order k) 0 ≡ suc w = omega (arith, open-ends (J .releases) (J .deadlines) lost ends t (jobAt order k) o z) in
+          gains-on (J .releases) (J .deadlines) order lost ends m k t o z ∙ later w (ahead-on c h below o z q (λ i a b. refl))
 
   found : (m k t : ℕ) → m + k ≡ count J → Ahead J order ends S S′ x k t → Found m k t
   unfolding gains
   found zero k t q h =
       sym (ne-eqb (volumeOf J S′) (suc (volumeOf J S)) (λ (e : volumeOf J S′ ≡ suc (volumeOf J S)). omega (arith, met-volume c h (omega arith))))
   found (suc m) k t q h =
-      by-bool (isOpen J lost ends t (jobAt order k))
+      by-bool (openIn J lost ends t (jobAt order k))
       (λ o. open-turn m k t h (omega arith) o (λ w. found m (suc k) w (omega arith)))
-      (λ o. gains-closed J order lost ends m k t o ∙ found m (suc k) t (omega arith) (ahead-closed c h (omega arith) o))
+      (λ o. gains-closed (J .releases) (J .deadlines) order lost ends m k t o ∙ found m (suc k) t (omega arith) (ahead-closed c h (omega arith) o))
 
 pub helps-by-volume : (J : Jobs) (S : List Bool) (x : ℕ) → length S ≡ J .horizon → helps J S x ≡ eqb (volumeOf J (awake (wakeSlot S x))) (suc (volumeOf J (awake S)))
 unfolding helps edfVolume

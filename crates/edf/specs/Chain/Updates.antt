@@ -14,10 +14,10 @@ use Rattle.sched.specs.Checks.{Passes}
 use Rattle.sched.specs.Slots.{awake, wakeSlot, asleep, times}
 use Rattle.sched.specs.Steps.{helps}
 use Rattle.edf.specs.Run.{spans}
-use Rattle.edf.specs.Chain.{jobAt, RankedJobs, Kept, isOpen, Books, gained, givenUp, applied, chainApply}
+use Rattle.edf.specs.Chain.{jobAt, RankedJobs, Kept, Books, gained, givenUp, applied, chainApply}
 use Rattle.edf.specs.Chain.Turns.{applied-closed, applied-lost, applied-on}
 use Rattle.edf.specs.Chain.Alike.{before-byte}
-use Rattle.edf.specs.Chain.Ahead.{Waking, open-ends}
+use Rattle.edf.specs.Chain.Ahead.{openIn, Waking, open-ends}
 use Rattle.edf.specs.Chain.Keeping.{times-left, kept-long, kept-byte, kept-ends, waking, starts-ahead}
 use Rattle.edf.specs.Chain.Tests.{volumeOf, met-volume, helps-by-volume}
 use Rattle.edf.specs.Chain.Storing.{Storing, stored, storing-closed, storing-on, gained-table, gained-lost, gained-ends}
@@ -27,7 +27,7 @@ abbrev pub KeptBooks : Jobs → List Bool → Books → Type 0
 KeptBooks J T b = Kept J T (b .table) (b .lost) (b .ends)
 
 module _ {J : Jobs} (few : count J ≤ 254) {order lost : List ℕ} (lost-long : count J ≤ length lost) {S : ℕ → Bool} (T : List Bool) {x : ℕ} (c : Waking J order lost S (awake T) x) where
-  gained-kept : {k t : ℕ} {table ends : List ℕ} → Storing J order S (awake T) x k t table ends → k < count J → isOpen J lost ends t (jobAt order k) ≡ true →
+  gained-kept : {k t : ℕ} {table ends : List ℕ} → Storing J order S (awake T) x k t table ends → k < count J → openIn J lost ends t (jobAt order k) ≡ true →
       0 < getD lost (jobAt order k) 0 → KeptBooks J T (gained (jobAt order k) t table lost ends)
   gained-kept {k} {t} {table} h below o u =
       let same = gained-table few c h below o u in
@@ -41,29 +41,29 @@ module _ {J : Jobs} (few : count J ≤ 254) {order lost : List ℕ} (lost-long :
       }
 
   -- the open job of rank k ends the chain or hands it on
-  open-turn : (m k t : ℕ) (table ends : List ℕ) → Storing J order S (awake T) x k t table ends → k < count J → isOpen J lost ends t (jobAt order k) ≡ true →
-      ((w : ℕ) (table ends : List ℕ) → Storing J order S (awake T) x (suc k) w table ends → KeptBooks J T (applied J order m (suc k) w table lost ends)) →
-      KeptBooks J T (applied J order (suc m) k t table lost ends)
+  open-turn : (m k t : ℕ) (table ends : List ℕ) → Storing J order S (awake T) x k t table ends → k < count J → openIn J lost ends t (jobAt order k) ≡ true →
+      ((w : ℕ) (table ends : List ℕ) → Storing J order S (awake T) x (suc k) w table ends → KeptBooks J T (applied (J .releases) (J .deadlines) order m (suc k) w table lost ends)) →
+      KeptBooks J T (applied (J .releases) (J .deadlines) order (suc m) k t table lost ends)
   open-turn m k t table ends h below o later = go (decLt 0 (getD lost (jobAt order k) 0))
     where
-      go : Dec (0 < getD lost (jobAt order k) 0) → KeptBooks J T (applied J order (suc m) k t table lost ends)
+      go : Dec (0 < getD lost (jobAt order k) 0) → KeptBooks J T (applied (J .releases) (J .deadlines) order (suc m) k t table lost ends)
       go (yes u) =
-          rw (applied-lost J order table lost ends m k t o u) (gained-kept h below o u)
+          rw (applied-lost (J .releases) (J .deadlines) order table lost ends m k t o u) (gained-kept h below o u)
       go (no f) =
           let z : getD lost (jobAt order k) 0 ≡ 0 = omega arith in
           let w = getD ends (jobAt order k) 0 - 1 in
-          let q : getD ends (jobAt order k) 0 ≡ suc w = omega (arith, open-ends J lost ends t (jobAt order k) o z) in
-          rw (applied-on J order table lost ends m k t o z)
+          let q : getD ends (jobAt order k) 0 ≡ suc w = omega (arith, open-ends (J .releases) (J .deadlines) lost ends t (jobAt order k) o z) in
+          rw (applied-on (J .releases) (J .deadlines) order table lost ends m k t o z)
           (later w (stored order k t table) (givenUp (jobAt order k) (stored order k t table) ends) (storing-on few c h below o z w q))
 
   -- where the woken run serves a unit more, the chain does not end without a job
   applied-kept : volumeOf J (awake T) ≡ suc (volumeOf J S) → (m k t : ℕ) (table ends : List ℕ) → m + k ≡ count J → Storing J order S (awake T) x k t table ends →
-      KeptBooks J T (applied J order m k t table lost ends)
+      KeptBooks J T (applied (J .releases) (J .deadlines) order m k t table lost ends)
   applied-kept more zero k t table ends q h = absurd (omega (arith, met-volume c (h .come) (omega arith)))
   applied-kept more (suc m) k t table ends q h =
-      by-bool (isOpen J lost ends t (jobAt order k))
+      by-bool (openIn J lost ends t (jobAt order k))
       (λ o. open-turn m k t table ends h (omega arith) o (λ w table ends. applied-kept more m (suc k) w table ends (omega arith)))
-      (λ o. rw (applied-closed J order table lost ends m k t o)
+      (λ o. rw (applied-closed (J .releases) (J .deadlines) order table lost ends m k t o)
       (applied-kept more m (suc k) t table ends (omega arith) (storing-closed few c h (omega arith) o)))
 
 module _ {J : Jobs} {S : List Bool} {order table lost ends : List ℕ} {x : ℕ} (passes : Passes J) (long : length S ≡ J .horizon) (ranks : RankedJobs J order) (kept : Kept J S table lost ends) (inside : x < J .horizon) (sleeps : awake S x ≡ false) where

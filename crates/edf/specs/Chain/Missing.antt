@@ -1,4 +1,4 @@
--- What is kept tells the set and how much volume is missing, and where none is, the table is that of step 4.
+-- What is kept tells the set and how much volume is missing.
 use Prim.Native.Nat.{ℕ, suc, _+_, _-_, _≤_, _<_}
 use mathlib.Core.Path.{_≡_, refl, ap, ap₂, sym, _∙_}
 use mathlib.Core.Bool.{Bool, true, false, not}
@@ -14,12 +14,10 @@ use Rattle.sched.specs.Jobs.{Jobs, count, volume, totalVolume}
 use Rattle.sched.specs.Checks.{Passes}
 use Rattle.sched.specs.Slots.{awake, awakeOf, asleep}
 use Rattle.sched.specs.Workable.{workable}
-use Rattle.sched.specs.Steps.{tableOf}
 use Rattle.edf.specs.Run.{Spans, State, spans, chosen, after, slotByte, left, bytes}
 use Rattle.edf.specs.Pick.{View, view}
 use Rattle.edf.specs.Search.{Reads, reads-head, reads-tail}
-use Rattle.edf.specs.Whole.{served-and-lost, nothing-lost}
-use Rattle.edf.specs.Table.{fill-is-run}
+use Rattle.edf.specs.Whole.{served-and-lost}
 use Rattle.edf.specs.Theorems.{workable-is-edf}
 use Rattle.edf.specs.Chain.{Kept}
 use Rattle.edf.specs.Chain.Ahead.{leftOf}
@@ -60,10 +58,3 @@ module _ {J : Jobs} {S : List Bool} {table lost ends : List ℕ} (passes : Passe
         served-and-lost J (passes .same-volumes) S,
         sum-ext (count J) (λ j. getD lost j 0) (leftOf J (awake S) (J .horizon)) (kept-loses kept (omega (arith, passes .few))),
       )
-
-  -- Where nothing is lost, the table is the one that step 4 writes.
-  pub kept-table : workable J S ≡ totalVolume J → table ≡ tableOf J S
-  unfolding tableOf left
-  kept-table all =
-      let done = nothing-lost J (passes .same-volumes) S (sym (workable-is-edf J S long) ∙ all) in
-      run-table ∙ sym (fill-is-run J (awake S) (volume J) (J .horizon) done S 0 (J .volumes) (reads-all S) (omega arith) refl)
