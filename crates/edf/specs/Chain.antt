@@ -15,6 +15,7 @@ pub mod Ends
 pub mod Turns
 pub mod Served
 pub mod Alike
+pub mod Open
 pub mod Ahead
 pub mod Keeping
 pub mod Tests

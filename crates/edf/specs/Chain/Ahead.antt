@@ -1,59 +1,26 @@
 -- What the chain knows where it has come to slot t and to rank k: the run with the woken slot is one slot ahead there, for it has before
 -- slot t what the other has after it; so it serves the first job that is open at t, and none of rank below k is.
-use Prim.Native.Nat.{ℕ, zero, suc, _+_, _-_, _≤_, _<_}
-use mathlib.Core.Path.{_≡_, refl, ap, sym, _∙_}
-use mathlib.Core.Bool.{Bool, true, false, _||_}
+use Prim.Native.Nat.{ℕ, suc, _≤_, _<_}
+use mathlib.Core.Path.{_≡_, ap, sym, _∙_}
+use mathlib.Core.Bool.{Bool, true, false}
 use mathlib.Core.List.{List}
-use mathlib.Core.Option.{Option, none, some}
-use mathlib.Core.Logic.{_⊎_, inl, inr, ⊎-elim, _≢_}
+use mathlib.Core.Option.{Option, some}
+use mathlib.Core.Logic.{_⊎_, inl, inr, _≢_}
 use native.Mathlib.Omega.{arith}
 use native.Mathlib.Decide.{ℕ-discrete, decLt}
-use borrow.Author.Tests.{leb-true, ltb-true, le-leb, lt-ltb}
-use lib.Dec.{ltb}
-use lib.ListN.{length, getD}
-use Rattle.sched.specs.Bounded.Laws.{lt-suc, true-not-false, and-true, or-true, or-left, or-right}
-use Rattle.sched.specs.Jobs.{Jobs, count, release, deadline, volume}
-use Rattle.edf.specs.Run.{Spans, State, Eligible, spans, chosen, lowered, after, left}
-use Rattle.edf.specs.Pick.{First, Chosen, view}
-use Rattle.edf.specs.Units.{OneMore, lowered-less, lowered-there, lowered-elsewhere, less-is-lowered}
+use lib.ListN.{getD}
+use Rattle.sched.specs.Bounded.Laws.{lt-suc, true-not-false}
+use Rattle.sched.specs.Jobs.{Jobs, count, deadline, volume}
+use Rattle.edf.specs.Run.{State, Eligible, spans, chosen, left}
+use Rattle.edf.specs.Pick.{First, Chosen}
+use Rattle.edf.specs.Units.{OneMore, lowered-less, lowered-elsewhere, less-is-lowered}
 use Rattle.edf.specs.Apart.{eligible-with}
 use Rattle.edf.specs.Left.{left-falls, left-asleep}
 use Rattle.edf.specs.OneSlotMore.{Extra, before-extra}
-use Rattle.edf.specs.Chain.{jobAt, RankedJobs, isOpen}
+use Rattle.edf.specs.Chain.{jobAt, RankedJobs}
+use Rattle.edf.specs.Chain.Open.{openIn, opened, open-if, open-ends}
 use Rattle.edf.specs.Chain.Served.{served, LastServed, served-less, served-first, served-lowers, left-after-last, left-before-last}
 use Rattle.edf.specs.Chain.Alike.{chosen-is, chosen-none, AlikeTo, alike-to, merged}
-
--- The test for an open job
-
-pub record Opened (releases deadlines lost ends : List ℕ) (t j : ℕ) : Type 0 where
-  pub released : getD releases j 0 ≤ t
-  pub before : t < getD deadlines j 0
-  pub unit : (0 < getD lost j 0) ⊎ (t < getD ends j 0)
-
-module _ (releases deadlines lost ends : List ℕ) (t j : ℕ) where
-  pub opened : isOpen releases deadlines lost ends t j ≡ true → Opened releases deadlines lost ends t j
-  opened e =
-      let (ab, c) = and-true _ _ e in
-      let (a, b) = and-true _ _ ab in
-      record { released = leb-true _ _ a; before = ltb-true _ _ b; unit = go (or-true _ _ c) }
-    where
-      go : (ltb 0 (getD lost j 0) ≡ true) ⊎ (ltb t (getD ends j 0) ≡ true) → (0 < getD lost j 0) ⊎ (t < getD ends j 0)
-      go (inl q) = inl (ltb-true _ _ q)
-      go (inr q) = inr (ltb-true _ _ q)
-
-  pub open-if : Opened releases deadlines lost ends t j → isOpen releases deadlines lost ends t j ≡ true
-  open-if o = simp (le-leb _ _ (o .released), lt-ltb _ _ (o .before)) (go (o .unit))
-    where
-      go : (0 < getD lost j 0) ⊎ (t < getD ends j 0) → ltb 0 (getD lost j 0) || ltb t (getD ends j 0) ≡ true
-      go (inl u) = or-left (ltb 0 (getD lost j 0)) (ltb t (getD ends j 0)) (lt-ltb _ _ u)
-      go (inr u) = or-right (ltb 0 (getD lost j 0)) (ltb t (getD ends j 0)) (lt-ltb _ _ u)
-
-  -- an open job without lost units has its last slot at t or later
-  pub open-ends : isOpen releases deadlines lost ends t j ≡ true → getD lost j 0 ≡ 0 → t < getD ends j 0
-  open-ends e z = ⊎-elim (λ u. absurd (omega arith)) (λ u. u) (opened e .unit)
-
-abbrev pub openIn : Jobs → List ℕ → List ℕ → ℕ → ℕ → Bool
-openIn J lost ends t j = isOpen (J .releases) (J .deadlines) lost ends t j
 
 -- Ranks
 

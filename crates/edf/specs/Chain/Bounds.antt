@@ -1,6 +1,6 @@
 -- What a loop over the chain needs besides: lengths stay, slots lie in the table, jobs and bytes are small.
-use Prim.Native.Nat.{ℕ, zero, suc, _+_, _-_, _≤_, _<_, max}
-use mathlib.Core.Path.{_≡_, refl, ap, sym, _∙_}
+use Prim.Native.Nat.{ℕ, zero, suc, _-_, _≤_, _<_}
+use mathlib.Core.Path.{_≡_, refl, _∙_}
 use mathlib.Core.Bool.{Bool, true, false}
 use mathlib.Core.List.{List}
 use mathlib.Core.Option.{Option, none, some}
@@ -14,10 +14,11 @@ use Rattle.sched.specs.Checks.{Passes}
 use Rattle.sched.specs.Slots.{awake}
 use Rattle.edf.specs.Run.{Spans, State, spans, chosen, slotByte, left}
 use Rattle.edf.specs.Pick.{View, view}
-use Rattle.edf.specs.Chain.{jobAt, RankedJobs, Kept, isOpen, endBelow, endOf, Books, books, givenUp, applied, chainApply}
+use Rattle.edf.specs.Chain.{jobAt, RankedJobs, Kept, isOpen, endBelow, Books, books, givenUp, applied, chainApply}
 use Rattle.edf.specs.Chain.Ends.{ends-below}
 use Rattle.edf.specs.Chain.Turns.{applied-closed, applied-lost, applied-on}
-use Rattle.edf.specs.Chain.Ahead.{openIn, Waking, Ahead, open-ends, given-later}
+use Rattle.edf.specs.Chain.Open.{openIn, open-ends}
+use Rattle.edf.specs.Chain.Ahead.{Waking, Ahead, given-later}
 use Rattle.edf.specs.Chain.Keeping.{kept-long, kept-byte, kept-ends}
 
 -- Lengths

@@ -1,5 +1,5 @@
 -- What is kept tells the set and how much volume is missing.
-use Prim.Native.Nat.{ℕ, suc, _+_, _-_, _≤_, _<_}
+use Prim.Native.Nat.{ℕ, suc, _+_, _≤_}
 use mathlib.Core.Path.{_≡_, refl, ap, ap₂, sym, _∙_}
 use mathlib.Core.Bool.{Bool, true, false, not}
 use mathlib.Core.List.{List, [], _∷_}
@@ -14,7 +14,7 @@ use Rattle.sched.specs.Jobs.{Jobs, count, volume, totalVolume}
 use Rattle.sched.specs.Checks.{Passes}
 use Rattle.sched.specs.Slots.{awake, awakeOf, asleep}
 use Rattle.sched.specs.Workable.{workable}
-use Rattle.edf.specs.Run.{Spans, State, spans, chosen, after, slotByte, left, bytes}
+use Rattle.edf.specs.Run.{Spans, State, spans, chosen, after, slotByte, bytes}
 use Rattle.edf.specs.Pick.{View, view}
 use Rattle.edf.specs.Search.{Reads, reads-head, reads-tail}
 use Rattle.edf.specs.Whole.{served-and-lost}

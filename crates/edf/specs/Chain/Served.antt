@@ -1,13 +1,12 @@
 -- The table of a run against its states: which job a slot serves, and when a unit of a job is left.
-use Prim.Native.Nat.{ℕ, zero, suc, _+_, _-_, _≤_, _<_}
+use Prim.Native.Nat.{ℕ, zero, suc, _+_, _≤_, _<_}
 use mathlib.Core.Path.{_≡_, refl, ap, sym, _∙_}
-use mathlib.Core.Bool.{Bool, true, false, false≢true}
-use mathlib.Core.List.{List}
+use mathlib.Core.Bool.{Bool, true, false}
 use mathlib.Core.Option.{Option, none, some}
-use mathlib.Core.Logic.{_⊎_, inl, inr, _≢_}
+use mathlib.Core.Logic.{_≢_}
 use native.Mathlib.Omega.{arith}
-use native.Mathlib.Decide.{ℕ-discrete, decLt, le-ind}
-use lib.ListN.{length, getD}
+use native.Mathlib.Decide.{le-ind}
+use lib.ListN.{getD}
 use Rattle.edf.specs.Run.{Spans, State, chosen, lowered, after, slotByte, bytes, left}
 use Rattle.edf.specs.Pick.{Chosen, View, view}
 use Rattle.edf.specs.Units.{lowered-there, lowered-elsewhere}

@@ -1,6 +1,6 @@
 -- What the update has made of the books where its chain has come to slot t and rank k, and a turn of it.
-use Prim.Native.Nat.{ℕ, zero, suc, _+_, _-_, _≤_, _<_, max}
-use mathlib.Core.Path.{_≡_, refl, ap, sym, _∙_}
+use Prim.Native.Nat.{ℕ, suc, _-_, _≤_, _<_, max}
+use mathlib.Core.Path.{_≡_, sym, _∙_}
 use mathlib.Core.Bool.{Bool, true, false}
 use mathlib.Core.List.{List}
 use mathlib.Core.Logic.{_≢_}
@@ -9,15 +9,16 @@ use native.Mathlib.Decide.{ℕ-discrete, decLt}
 use lib.ListN.{length, getD, set, length-set}
 use lib.Seq.{getD-set-same, getD-set-other, ext-getD}
 use Rattle.sched.specs.Jobs.{Jobs, count, volume}
-use Rattle.sched.specs.Slots.{awake, asleep, times}
+use Rattle.sched.specs.Slots.{asleep}
 use Rattle.edf.specs.Run.{spans}
 use Rattle.edf.specs.Placements.{bytes-long}
-use Rattle.edf.specs.Chain.{jobAt, Kept, endBelow, endOf, Books, gained, givenUp}
+use Rattle.edf.specs.Chain.{jobAt, endBelow, endOf, givenUp}
 use Rattle.edf.specs.Chain.Ends.{Ends, end-is, ends-gained, ends-kept, ends-blank, ends-unblanked}
 use Rattle.edf.specs.Chain.Served.{table-byte, serves-byte}
 use Rattle.edf.specs.Chain.Alike.{alike-byte}
-use Rattle.edf.specs.Chain.Ahead.{openIn, leftOf, Alike, Waking, Ahead, ranks-differ, ahead-closed, serves-there, gained-alike, given-later, given-alike, ahead-on}
-use Rattle.edf.specs.Chain.Keeping.{runBytes, runByteAt, times-left}
+use Rattle.edf.specs.Chain.Open.{openIn}
+use Rattle.edf.specs.Chain.Ahead.{leftOf, Alike, Waking, Ahead, ranks-differ, ahead-closed, serves-there, gained-alike, given-later, given-alike, ahead-on}
+use Rattle.edf.specs.Chain.Keeping.{runBytes, runByteAt}
 
 -- Below t the table is that of the woken run, above it that of the other, and slot t is to be stored. The ends are those of the table
 -- without slot t.

@@ -19,7 +19,8 @@ use Rattle.edf.specs.Left.{vol-and-left}
 use Rattle.edf.specs.Theorems.{workable-is-edf}
 use Rattle.edf.specs.Chain.{jobAt, RankedJobs, Kept, gains, chainHelps}
 use Rattle.edf.specs.Chain.Turns.{gains-closed, gains-lost, gains-on}
-use Rattle.edf.specs.Chain.Ahead.{openIn, leftOf, Waking, Ahead, open-ends, ahead-closed, ahead-on, ahead-end, gained-alike}
+use Rattle.edf.specs.Chain.Open.{openIn, open-ends}
+use Rattle.edf.specs.Chain.Ahead.{leftOf, Waking, Ahead, ahead-closed, ahead-on, ahead-end, gained-alike}
 use Rattle.edf.specs.Chain.Keeping.{waking, starts-ahead}
 
 -- the units that the run of S serves

@@ -1,6 +1,6 @@
 -- The chain brings what is kept up to the set with the woken slot.
 use Prim.Native.Nat.{ℕ, zero, suc, _+_, _-_, _≤_, _<_}
-use mathlib.Core.Path.{_≡_, refl, ap, sym, _∙_}
+use mathlib.Core.Path.{_≡_, ap, sym, _∙_}
 use mathlib.Core.Bool.{Bool, true, false}
 use mathlib.Core.List.{List}
 use native.Mathlib.Omega.{arith}
@@ -17,7 +17,8 @@ use Rattle.edf.specs.Run.{spans}
 use Rattle.edf.specs.Chain.{jobAt, RankedJobs, Kept, Books, gained, givenUp, applied, chainApply}
 use Rattle.edf.specs.Chain.Turns.{applied-closed, applied-lost, applied-on}
 use Rattle.edf.specs.Chain.Alike.{before-byte}
-use Rattle.edf.specs.Chain.Ahead.{openIn, Waking, open-ends}
+use Rattle.edf.specs.Chain.Open.{openIn, open-ends}
+use Rattle.edf.specs.Chain.Ahead.{Waking}
 use Rattle.edf.specs.Chain.Keeping.{times-left, kept-long, kept-byte, kept-ends, waking, starts-ahead}
 use Rattle.edf.specs.Chain.Tests.{volumeOf, met-volume, helps-by-volume}
 use Rattle.edf.specs.Chain.Storing.{Storing, stored, storing-closed, storing-on, gained-table, gained-lost, gained-ends}
