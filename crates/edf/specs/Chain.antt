@@ -17,6 +17,7 @@ pub mod Served
 pub mod Alike
 pub mod Open
 pub mod Ahead
+pub mod Starting
 pub mod Keeping
 pub mod Tests
 pub mod Storing
