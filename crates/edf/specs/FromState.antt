@@ -6,17 +6,17 @@ use mathlib.Core.List.{List, [], _∷_}
 use mathlib.Core.Logic.{_↔_}
 use native.Mathlib.Omega.{arith}
 use native.Mathlib.Decide.{decLt}
-use lib.ListN.{length}
 use Rattle.sched.specs.Bounded.{sumBelow}
 use Rattle.sched.specs.Bounded.Laws.{sum-ext, sum-zero}
 use Rattle.sched.specs.Jobs.{Jobs, count}
 use Rattle.sched.specs.Slots.{times}
 use Rattle.sched.specs.Workable.{units}
 use Rattle.edf.specs.Run.{State, spans, vol, final, bytes, allUnits}
+use Rattle.edf.specs.Placed.{AllPlaced}
 use Rattle.edf.specs.Units.{sum-one-more}
 use Rattle.edf.specs.Find.{part-positive}
 use Rattle.edf.specs.Left.{served-and-left}
-use Rattle.edf.specs.Placements.{PlacedFrom, times-empty, times-same, times-other, units-empty, units-job, units-none, placed-at-most, bytes-long, bytes-times, run-placed}
+use Rattle.edf.specs.Placements.{times-empty, times-same, times-other, units-empty, units-job, units-none, placed-at-most, bytes-long, bytes-times, run-placed}
 
 -- the units of a placement, job by job
 pub units-by-job : (J : Jobs) (placed : List ℕ) → units J placed ≡ sumBelow (count J) (λ j. times j placed)
@@ -31,12 +31,6 @@ units-by-job J (x ∷ rest) = go (decLt x (count J)) (units-by-job J rest)
     go (no l) ih =
         units-none J x rest (omega arith) ∙ ih
         ∙ sum-ext (count J) (λ j. times j rest) (λ j. times j (x ∷ rest)) (λ j b. sym (times-other j x rest (omega arith)))
-
--- all units of the state are placed in the h slots from t on
-pub record AllPlaced (J : Jobs) (S : ℕ → Bool) (h t : ℕ) (L : State) (placed : List ℕ) : Type 0 where
-  pub long : length placed ≡ h
-  pub fair : PlacedFrom J S t L placed
-  pub exact : (j : ℕ) → j < count J → times j placed ≡ L j
 
 pub all-placed-iff-served : (J : Jobs) (S : ℕ → Bool) (h t : ℕ) (L : State) → count J ≤ 254 →
     ((placed : List ℕ) × AllPlaced J S h t L placed) ↔ (vol (spans J) S h t L ≡ allUnits (spans J) L)

@@ -11,22 +11,9 @@ use Rattle.edf.specs.Pick.{View, view}
 use Rattle.edf.specs.Units.{OneMore, sum-one-more}
 use Rattle.edf.specs.Apart.{Step, stays, moves, meets}
 use Rattle.edf.specs.Left.{vol-and-left, left-asleep}
-use Rattle.edf.specs.Carry.{Carry, carry-more, carry-eligible}
+use Rattle.edf.specs.Lacking.{Carry, Lacking}
+use Rattle.edf.specs.Carry.{carry-more, carry-eligible}
 use Rattle.edf.specs.OneSlotMore.{Extra, Gap, closed, open-at, extra-step, extra-apart, apart-step, gap, extra-leaves-less}
-
--- units due at e are left where nothing can serve them any more
-pub record Lossy (F : Spans) (e : ℕ) (L : State) : Type 0 where
-  pub job : ℕ
-  pub below : job < F .n
-  pub at-end : F .d job ≡ e
-  pub unit : 0 < L job
-
--- over every slot from x up to the deadline a unit due by then is carried, and one of that deadline is lost
-pub record Lacking (F : Spans) (S : ℕ → Bool) (p : State) (H x : ℕ) : Type 0 where
-  pub deadline : ℕ
-  pub ahead : x < deadline
-  pub lossy : Lossy F deadline (left F S p H)
-  pub carried : (s : ℕ) → x < s → s ≤ deadline → Carry F deadline s (left F S p s)
 
 module _ (F : Spans) (S S′ : ℕ → Bool) (p : State) (x H : ℕ) (c : Extra S S′ x) where
   closed-volume : left F S p H ≡ left F S′ p H → vol F S′ H 0 p ≡ vol F S H 0 p

@@ -12,7 +12,8 @@ use Rattle.edf.specs.Run.{Spans, State, chosen, lowered, after, gain, le
 use Rattle.edf.specs.Pick.{Chosen, View, view}
 use Rattle.edf.specs.Units.{OneMore, lowered-less, less-everywhere}
 use Rattle.edf.specs.Left.{left-asleep}
-use Rattle.edf.specs.Carry.{Carry, carry-later, own-carry}
+use Rattle.edf.specs.Lacking.{Carry}
+use Rattle.edf.specs.Carry.{carry-later, own-carry}
 use Rattle.edf.specs.Apart.{Step, stays, moves, meets, step}
 
 -- S′ is S with slot x awake as well

@@ -16,15 +16,10 @@ use Rattle.sched.specs.Slots.{times}
 use Rattle.sched.specs.Feasible.{OwnSlot}
 use Rattle.sched.specs.Workable.{units}
 use Rattle.edf.specs.Run.{Spans, State, Eligible, spans, chosen, lowered, after, gain, vol, final, slotByte, bytes}
+use Rattle.edf.specs.Placed.{PlacedFrom}
 use Rattle.edf.specs.Pick.{View, view}
 use Rattle.edf.specs.Units.{lowered-there, lowered-elsewhere}
 use Rattle.edf.specs.Exchange.{Allowed, any-choice}
-
--- placed gives each slot from t on a number; of a job, for a unit of it, or any other for none. There are L units of each job.
-pub record PlacedFrom (J : Jobs) (S : ℕ → Bool) (t : ℕ) (L : State) (placed : List ℕ) : Type 0 where
-  pub in-set : (i : ℕ) → i < length placed → getD placed i 0 < count J → S (t + i) ≡ true
-  pub own : (i : ℕ) → i < length placed → getD placed i 0 < count J → OwnSlot J (getD placed i 0) (t + i)
-  pub often : (j : ℕ) → j < count J → times j placed ≤ L j
 
 pub times-empty : (j : ℕ) → times j [] ≡ 0
 unfolding times

@@ -13,8 +13,8 @@ use Rattle.edf.specs.Run.{Spans, State, chosen, lowered, after, left}
 use Rattle.edf.specs.Pick.{View, view}
 use Rattle.edf.specs.Units.{OneMore, lowered-less, sum-one-more}
 use Rattle.edf.specs.Left.{left-falls, left-unreleased}
-use Rattle.edf.specs.Carry.{Carry, carry-eligible, carry-decided}
-use Rattle.edf.specs.Helping.{Lossy}
+use Rattle.edf.specs.Lacking.{Carry, Lossy}
+use Rattle.edf.specs.Carry.{carry-eligible, carry-decided}
 use Rattle.edf.specs.Find.{last-failure, part-positive}
 
 -- nothing due by e is carried over a, and something is over every slot from there to e, where units are lost

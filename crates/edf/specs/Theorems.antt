@@ -1,5 +1,6 @@
 -- What earliest deadline first says about the words of 01: the workable volume of a set of slots, which slots help it, and when a list
--- has a feasible table.
+-- has a feasible table. `FromState` has the law for the rest of a run, from any slot and any units left; `AnyTie` that the rule on equal
+-- deadlines does not matter to what is served.
 use Prim.Native.Nat.{ℕ, suc, _≤_, _<_}
 use mathlib.Core.Path.{_≡_, refl, sym, _∙_}
 use mathlib.Core.Bool.{Bool, true, false}
@@ -18,7 +19,7 @@ use Rattle.sched.specs.Workable.{Placement, Greatest, units, workable}
 use Rattle.sched.specs.Steps.{helps, wakes, tableOf}
 use Rattle.edf.specs.Run.{spans, left, allUnits, edfVolume}
 use Rattle.edf.specs.Search.{reads-whole}
-use Rattle.edf.specs.Helping.{Lacking}
+use Rattle.edf.specs.Lacking.{Lacking}
 use Rattle.edf.specs.Touching.{touching-lacks, all-awake-serves}
 use Rattle.edf.specs.Table.{fill-awake, fill-is-run, run-feasible}
 use Rattle.edf.specs.Whole.{run-greatest, search-finds-run, served-and-lost, nothing-lost}
@@ -65,18 +66,17 @@ helps-iff-lacking J S x p long l sleeps = (lacks-if-helps J S long x l sleeps (�
         (omega (arith, p .good (k .lossy .job) (k .lossy .below) .within, k .lossy .at-end)) (k .carried)
 
 -- A slot that was tried in vain never has to be tried again.
-pub unhelpful-stays : (J : Jobs) → Passes J → (S : List Bool) (x y : ℕ) → length S ≡ J .horizon → x < J .horizon → y < J .horizon →
-    awake S x ≡ false → helps J S x ≡ false → helps J (wakeSlot S y) x ≡ false
-unhelpful-stays J p S x y long l m sleeps vain =
+pub unhelpful-stays : (J : Jobs) (S : List Bool) (x y : ℕ) → Passes J → length S ≡ J .horizon → x < J .horizon → awake S x ≡ false →
+    helps J S x ≡ false → y < J .horizon → helps J (wakeSlot S y) x ≡ false
+unhelpful-stays J S x y p long l sleeps vain m =
     by-bool (helps J (wakeSlot S y) x)
     (λ q. true-not-false (helps J S x) (helped-before J (λ j b. p .good j b .within) S long x y l m sleeps q) vain) (λ q. q)
 
 -- Step 3 finds its slot: "Where step 1 found no overload such a slot always exists".
-pub some-slot-wakes : (J : Jobs) → Passes J → ((a b : ℕ) → overloaded J a b ≡ false) →
-    (S : List Bool) → length S ≡ J .horizon → isSkeleton J S ≡ true → workable J S < totalVolume J →
-    (x : ℕ) × (x < J .horizon) × (wakes J S x ≡ true)
+pub some-slot-wakes : (J : Jobs) (S : List Bool) → Passes J → ((a b : ℕ) → overloaded J a b ≡ false) →
+    isSkeleton J S ≡ true → length S ≡ J .horizon → workable J S < totalVolume J → (x : ℕ) × (x < J .horizon) × (wakes J S x ≡ true)
 unfolding wakes
-some-slot-wakes J p free S long skeleton short =
+some-slot-wakes J S p free skeleton long short =
     let lost : 0 < allUnits (spans J) (left (spans J) (awake S) (volume J) (J .horizon)) = omega (arith, workable-is-edf J S long, served-and-lost J (p .same-volumes) S) in
     let fits = no-overload-fits J p free in
     let (e, m, k, carried) = touching-lacks (spans J) (awake S) (volume J) (J .horizon) fits lost (skeleton-windows J S skeleton) in

@@ -9,8 +9,7 @@ use Rattle.sched.specs.Bounded.{sumBelow}
 use Rattle.sched.specs.Bounded.Laws.{by-bool}
 use Rattle.edf.specs.Run.{Spans, State, left, allUnits}
 use Rattle.edf.specs.Find.{dec-both, find, change, sum-positive}
-use Rattle.edf.specs.Carry.{Carry}
-use Rattle.edf.specs.Helping.{Lossy}
+use Rattle.edf.specs.Lacking.{Carry, Lossy}
 use Rattle.edf.specs.Shortage.{Critical, critical, released-at, unitsInside, overfull}
 
 -- an awake slot next to x

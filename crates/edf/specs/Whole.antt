@@ -11,8 +11,9 @@ use Rattle.sched.specs.Jobs.{Jobs, count, volume, totalVolume}
 use Rattle.sched.specs.Slots.{awake}
 use Rattle.sched.specs.Workable.{Placement, Greatest, workable}
 use Rattle.edf.specs.Run.{spans, vol, left, bytes, allUnits, edfVolume}
+use Rattle.edf.specs.Placed.{PlacedFrom}
 use Rattle.edf.specs.Left.{vol-and-left}
-use Rattle.edf.specs.Placements.{PlacedFrom, placed-at-most, bytes-long, bytes-units, run-placed}
+use Rattle.edf.specs.Placements.{placed-at-most, bytes-long, bytes-units, run-placed}
 use Rattle.edf.specs.Search.{reads-whole, search-is-run}
 use Rattle.edf.specs.Find.{part-positive}
 

@@ -15,9 +15,9 @@ use Rattle.sched.specs.Slots.{awake, wakeSlot}
 use Rattle.sched.specs.Workable.{workable}
 use Rattle.sched.specs.Steps.{helps}
 use Rattle.edf.specs.Run.{spans, left, edfVolume}
-use Rattle.edf.specs.Carry.{Carry}
+use Rattle.edf.specs.Lacking.{Carry, Lacking}
 use Rattle.edf.specs.OneSlotMore.{Extra}
-use Rattle.edf.specs.Helping.{Lacking, extra-worth, helping-lacks, carried-helps, helps-before}
+use Rattle.edf.specs.Helping.{extra-worth, helping-lacks, carried-helps, helps-before}
 use Rattle.edf.specs.Whole.{search-finds-run}
 use Rattle.edf.specs.Sets.{woken-extra, wake-awake}
 
