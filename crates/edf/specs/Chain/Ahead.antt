@@ -195,7 +195,8 @@ module _ {J : Jobs} {order lost : List ℕ} {S S′ : ℕ → Bool} {x : ℕ} (c
             omega (arith, s .lower (first .sooner), first .lower (s .sooner))
 
         -- ends′ holds what ends does of the jobs still to be asked
-        pub ahead-on : {ends′ : List ℕ} → ((i : ℕ) → k < i → i < count J → getD ends′ (jobAt order i) 0 ≡ getD ends (jobAt order i) 0) → Ahead J order ends′ S S′ x (suc k) w
+        pub ahead-on : {ends′ : List ℕ} → ((i : ℕ) → k < i → i < count J → getD ends′ (jobAt order i) 0 ≡ getD ends (jobAt order i) 0) →
+            Ahead J order ends′ S S′ x (suc k) w
         ahead-on agree =
             record {
               from = omega (arith, given-later, h .from);

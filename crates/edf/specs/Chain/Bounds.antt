@@ -28,11 +28,13 @@ pub record SameLengths (b c : Books) : Type 0 where
   pub same-lost : length (c .lost) ≡ length (b .lost)
   pub same-ends : length (c .ends) ≡ length (b .ends)
 
-pub applied-lengths : (releases deadlines order : List ℕ) (m k t : ℕ) (table lost ends : List ℕ) → SameLengths (books table lost ends) (applied releases deadlines order m k t table lost ends)
+pub applied-lengths : (releases deadlines order : List ℕ) (m k t : ℕ) (table lost ends : List ℕ) →
+    SameLengths (books table lost ends) (applied releases deadlines order m k t table lost ends)
 unfolding applied
 applied-lengths releases deadlines order zero k t table lost ends = record { same-table = refl; same-lost = refl; same-ends = refl }
 applied-lengths releases deadlines order (suc m) k t table lost ends =
-    by-bool (isOpen releases deadlines lost ends t (jobAt order k)) (λ o. go o (decLt 0 (getD lost (jobAt order k) 0)) (applied-lengths releases deadlines order m (suc k) _ _ lost _))
+    by-bool (isOpen releases deadlines lost ends t (jobAt order k))
+    (λ o. go o (decLt 0 (getD lost (jobAt order k) 0)) (applied-lengths releases deadlines order m (suc k) _ _ lost _))
     (λ o. rw (applied-closed releases deadlines order table lost ends m k t o) (applied-lengths releases deadlines order m (suc k) t table lost ends))
   where
     go : isOpen releases deadlines lost ends t (jobAt order k) ≡ true → Dec (0 < getD lost (jobAt order k) 0) →
@@ -53,19 +55,20 @@ chain-lengths J order table lost ends x = applied-lengths (J .releases) (J .dead
 -- Slots of the chain lie in the table
 
 -- slot t is one of h, and so is the last of each of n jobs
-pub record Fits (h n t : ℕ) (table ends : List ℕ) : Type 0 where
+pub record InTable (h n t : ℕ) (table ends : List ℕ) : Type 0 where
   pub inside : t < h
   pub table-long : length table ≡ h
   pub ends-long : n ≤ length ends
   pub ends-within : (j : ℕ) → j < n → getD ends j 0 ≤ h
 
-pub fits-start : {J : Jobs} {S : List Bool} {table lost ends : List ℕ} → Kept J S table lost ends → (x : ℕ) → x < J .horizon → Fits (J .horizon) (count J) x table ends
-fits-start kept x l =
+pub in-table-start : {J : Jobs} {S : List Bool} {table lost ends : List ℕ} → Kept J S table lost ends → (x : ℕ) → x < J .horizon → InTable (J .horizon) (count J) x table ends
+in-table-start kept x l =
     record { inside = l; table-long = kept-long kept; ends-long = kept .ends-long; ends-within = λ j b. kept-ends kept j b .within }
 
-pub fits-on : (releases deadlines lost : List ℕ) {h n t j : ℕ} {table ends : List ℕ} → Fits h n t table ends → j < n → isOpen releases deadlines lost ends t j ≡ true → getD lost j 0 ≡ 0 →
-    Fits h n (getD ends j 0 - 1) (set table t j) (givenUp j (set table t j) ends)
-fits-on releases deadlines lost {h} {n} {t} {j} {table} {ends} f b o z =
+pub in-table-on : (releases deadlines lost : List ℕ) {h n t j : ℕ} {table ends : List ℕ} → InTable h n t table ends → j < n →
+    isOpen releases deadlines lost ends t j ≡ true → getD lost j 0 ≡ 0 →
+    InTable h n (getD ends j 0 - 1) (set table t j) (givenUp j (set table t j) ends)
+in-table-on releases deadlines lost {h} {n} {t} {j} {table} {ends} f b o z =
     record {
       inside = omega (arith, f .ends-within j b, open-ends releases deadlines lost ends t j o z);
       table-long = length-set table t j ∙ f .table-long;

@@ -96,7 +96,8 @@ unfolding endOf
 end-within j table = ends-below j (length table) table .within
 
 -- Only the slots below s count, and of those only whether they hold j.
-pub ends-alike : (j s : ℕ) (a b : List ℕ) (e : ℕ) → ((t : ℕ) → t < s → getD a t 0 ≡ j → getD b t 0 ≡ j) → ((t : ℕ) → t < s → getD b t 0 ≡ j → getD a t 0 ≡ j) → Ends j s a e → Ends j s b e
+pub ends-alike : (j s : ℕ) (a b : List ℕ) (e : ℕ) →
+    ((t : ℕ) → t < s → getD a t 0 ≡ j → getD b t 0 ≡ j) → ((t : ℕ) → t < s → getD b t 0 ≡ j → getD a t 0 ≡ j) → Ends j s a e → Ends j s b e
 ends-alike j s a b e to back c =
     record {
       within = c .within;

@@ -34,7 +34,8 @@ pub record Storing (J : Jobs) (order : List ℕ) (S S′ : ℕ → Bool) (x k t 
 abbrev pub stored : List ℕ → ℕ → ℕ → List ℕ → List ℕ
 stored order k t table = set table t (jobAt order k)
 
-module _ {J : Jobs} (few : count J ≤ 254) {order lost : List ℕ} {S S′ : ℕ → Bool} {x : ℕ} (c : Waking J order lost S S′ x) {k t : ℕ} {table ends : List ℕ} (h : Storing J order S S′ x k t table ends) (below : k < count J) where
+module _ {J : Jobs} (few : count J ≤ 254) {order lost : List ℕ} {S S′ : ℕ → Bool} {x : ℕ} (c : Waking J order lost S S′ x) {k t : ℕ} {table ends : List ℕ}
+    (h : Storing J order S S′ x k t table ends) (below : k < count J) where
   pub storing-closed : openIn J lost ends t (jobAt order k) ≡ false → Storing J order S S′ x (suc k) t table ends
   storing-closed o =
       record {

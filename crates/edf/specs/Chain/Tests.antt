@@ -27,7 +27,8 @@ use Rattle.edf.specs.Chain.Keeping.{waking, starts-ahead}
 abbrev pub volumeOf : Jobs → (ℕ → Bool) → ℕ
 volumeOf J S = vol (spans J) S (J .horizon) 0 (volume J)
 
-apart-volume : (J : Jobs) (S S′ : ℕ → Bool) (j : ℕ) → j < count J → OneMore j (leftOf J S (J .horizon)) (leftOf J S′ (J .horizon)) → volumeOf J S′ ≡ suc (volumeOf J S)
+apart-volume : (J : Jobs) (S S′ : ℕ → Bool) (j : ℕ) → j < count J → OneMore j (leftOf J S (J .horizon)) (leftOf J S′ (J .horizon)) →
+    volumeOf J S′ ≡ suc (volumeOf J S)
 apart-volume J S S′ j l o =
     omega (
       arith,

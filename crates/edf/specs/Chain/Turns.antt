@@ -10,7 +10,8 @@ use lib.ListN.{getD, set}
 use Rattle.edf.specs.Chain.{jobAt, isOpen, gains, Books, books, gained, givenUp, applied}
 
 module _ (releases deadlines order lost ends : List ℕ) (m k t : ℕ) where
-  pub gains-closed : isOpen releases deadlines lost ends t (jobAt order k) ≡ false → gains releases deadlines order lost ends (suc m) k t ≡ gains releases deadlines order lost ends m (suc k) t
+  pub gains-closed : isOpen releases deadlines lost ends t (jobAt order k) ≡ false →
+      gains releases deadlines order lost ends (suc m) k t ≡ gains releases deadlines order lost ends m (suc k) t
   unfolding gains
   gains-closed e = rw (e, gains)
 
@@ -24,7 +25,8 @@ module _ (releases deadlines order lost ends : List ℕ) (m k t : ℕ) where
   gains-on e l = rw (e, le-ltb 0 (getD lost (jobAt order k) 0) (omega arith), gains)
 
 module _ (releases deadlines order table lost ends : List ℕ) (m k t : ℕ) where
-  pub applied-closed : isOpen releases deadlines lost ends t (jobAt order k) ≡ false → applied releases deadlines order (suc m) k t table lost ends ≡ applied releases deadlines order m (suc k) t table lost ends
+  pub applied-closed : isOpen releases deadlines lost ends t (jobAt order k) ≡ false →
+      applied releases deadlines order (suc m) k t table lost ends ≡ applied releases deadlines order m (suc k) t table lost ends
   unfolding applied
   applied-closed e = rw (e, applied)
 

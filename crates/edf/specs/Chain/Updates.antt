@@ -27,7 +27,8 @@ use Rattle.edf.specs.Chain.Storing.{Storing, stored, storing-closed, sto
 abbrev pub KeptBooks : Jobs → List Bool → Books → Type 0
 KeptBooks J T b = Kept J T (b .table) (b .lost) (b .ends)
 
-module _ {J : Jobs} (few : count J ≤ 254) {order lost : List ℕ} (lost-long : count J ≤ length lost) {S : ℕ → Bool} (T : List Bool) {x : ℕ} (c : Waking J order lost S (awake T) x) where
+module _ {J : Jobs} (few : count J ≤ 254) {order lost : List ℕ} (lost-long : count J ≤ length lost) {S : ℕ → Bool} (T : List Bool) {x : ℕ}
+    (c : Waking J order lost S (awake T) x) where
   gained-kept : {k t : ℕ} {table ends : List ℕ} → Storing J order S (awake T) x k t table ends → k < count J → openIn J lost ends t (jobAt order k) ≡ true →
       0 < getD lost (jobAt order k) 0 → KeptBooks J T (gained (jobAt order k) t table lost ends)
   gained-kept {k} {t} {table} h below o u =
@@ -67,7 +68,8 @@ module _ {J : Jobs} (few : count J ≤ 254) {order lost : List ℕ} (lost-long :
       (λ o. rw (applied-closed (J .releases) (J .deadlines) order table lost ends m k t o)
       (applied-kept more m (suc k) t table ends (omega arith) (storing-closed few c h (omega arith) o)))
 
-module _ {J : Jobs} {S : List Bool} {order table lost ends : List ℕ} {x : ℕ} (passes : Passes J) (long : length S ≡ J .horizon) (ranks : RankedJobs J order) (kept : Kept J S table lost ends) (inside : x < J .horizon) (sleeps : awake S x ≡ false) where
+module _ {J : Jobs} {S : List Bool} {order table lost ends : List ℕ} {x : ℕ} (passes : Passes J) (long : length S ≡ J .horizon)
+    (ranks : RankedJobs J order) (kept : Kept J S table lost ends) (inside : x < J .horizon) (sleeps : awake S x ≡ false) where
   -- slot x is blank as it stands
   blank : set table x asleep ≡ table
   blank =
