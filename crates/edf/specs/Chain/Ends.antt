@@ -35,17 +35,17 @@ module _ (j : ℕ) (table : List ℕ) (all : ℕ) where
       let q : suc s - 1 ≡ s = omega arith in
       e ∙ end-here j s table (rw q at f)
 
-  -- a search that has j below it does not run out
-  pub scan-above : (s t : ℕ) → t < s → getD table t 0 ≡ j → getD table (s - 1) 0 ≢ j → t < s - 1
-  scan-above s t l e f = go (ℕ-discrete (s - 1) t)
-    where
-      go : Dec (s - 1 ≡ t) → t < s - 1
-      go (yes q) = absurd (f (rw q e))
-      go (no g) = omega arith
-
   pub scan-end : (s : ℕ) → s ≡ 0 → all ≡ endBelow j s table → all ≡ 0
   unfolding endBelow
   scan-end s q e = rw q at e
+
+-- a search that has j below it does not run out
+pub scan-above : (j : ℕ) (table : List ℕ) (s t : ℕ) → t < s → getD table t 0 ≡ j → getD table (s - 1) 0 ≢ j → t < s - 1
+scan-above j table s t l e f = go (ℕ-discrete (s - 1) t)
+  where
+    go : Dec (s - 1 ≡ t) → t < s - 1
+    go (yes q) = absurd (f (rw q e))
+    go (no g) = omega arith
 
 -- What the end says
 
