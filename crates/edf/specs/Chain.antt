@@ -22,6 +22,7 @@ pub mod Keeping
 pub mod Tests
 pub mod Storing
 pub mod Updates
+pub mod Changing
 pub mod Bounds
 pub mod Missing
 
