@@ -25,8 +25,8 @@ pub record Changing (releases deadlines order table₀ lost₀ ends₀ : List �
   pub ends-long : length releases ≤ length ends₀
   pub ends-within : (j : ℕ) → j < length releases → getD ends j 0 ≤ length table₀
   pub rest :
-    applied releases deadlines order (length releases) 0 x table₀ lost₀ ends₀
-    ≡ applied releases deadlines order (length releases - k) k t table lost ends
+      applied releases deadlines order (length releases) 0 x table₀ lost₀ ends₀
+      ≡ applied releases deadlines order (length releases - k) k t table lost ends
 
 -- the last slot of a job that gives it up is one of the table's
 pub record GivesUp (ends table : List ℕ) (t j : ℕ) : Type 0 where

@@ -91,9 +91,8 @@ ends-unique j s table (suc e) (suc f) a b = go (decLt e f) (decLt f e)
 pub end-is : (j s : ℕ) (table : List ℕ) (e : ℕ) → Ends j s table e → e ≡ endBelow j s table
 end-is j s table e c = ends-unique j s table e (endBelow j s table) c (ends-below j s table)
 
-pub end-within : (j : ℕ) (table : List ℕ) → endOf j table ≤ length table
-unfolding endOf
-end-within j table = ends-below j (length table) table .within
+pub end-at-most : (j s : ℕ) (table : List ℕ) (e : ℕ) → e ≡ endBelow j s table → e ≤ s
+end-at-most j s table e q = omega (arith, ends-below j s table .within)
 
 -- Only the slots below s count, and of those only whether they hold j.
 pub ends-alike : (j s : ℕ) (a b : List ℕ) (e : ℕ) →
