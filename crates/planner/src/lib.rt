@@ -1,0 +1,2 @@
+// The jobs by a key.
+mod order; // order.rt
