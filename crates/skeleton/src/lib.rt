@@ -1,0 +1,1 @@
+// Theory only: the laws are in specs/.
