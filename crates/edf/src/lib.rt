@@ -1,1 +1,1 @@
-// Theory only: the laws are in specs/.
+// Earliest deadline first: what it serves, and which slots help it. Theory only, in specs/.

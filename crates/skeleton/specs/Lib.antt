@@ -1,2 +1,8 @@
+-- The least skeleton. Files named Laws hold what is proved of the definitions beside them; `Theorems` has what other crates cite.
+pub mod Recursion
+pub mod Precedence
+pub mod Enumeration
+pub mod Windows
+pub mod Theorems
 pub mod Waking
 pub mod Rival

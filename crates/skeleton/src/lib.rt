@@ -1,1 +1,1 @@
-// Theory only: the laws are in specs/.
+// Laws of the least skeleton: no code, all of it stands in specs/.
