@@ -1,2 +1,3 @@
 -- What the parts of the planner compute, where that is not a definition of `sched` itself.
+pub mod Lists
 pub mod Order
