@@ -5,14 +5,19 @@ use mathlib.Core.List.{List, [], _∷_, reverse, reverse-append}
 use mathlib.Core.Option.{Option, none, some}
 use native.Mathlib.Numerals.{add-one}
 use native.Mathlib.Omega.{arith}
+use native.Mathlib.Nat.{sub-zero}
+use mathlib.Core.Bool.{true, false}
 use borrow.Author.Tests.{lt-leb, le-leb, lt-ltb, le-ltb}
 use lib.ListN.{length, getD, take}
 use lib.Seq.{take-suc, take-length}
 use lib.Dec.{ltb}
 use Rattle.sched.specs.Jobs.{Jobs, count, release, deadline, volume}
-use Rattle.edf.specs.Overload.Search.{startFor, sooner}
+use Rattle.sched.specs.Overload.{shownOverload}
+use Rattle.edf.specs.Overload.Search.{startFor, sooner, withEnd, tryEnd, searchFrom, searchOverload}
+use Rattle.edf.specs.Overload.Search.Laws.{search-shown}
 use Rattle.planner.specs.Order.Laws.{rising-length}
 use Rattle.planner.specs.Order.Members.{rising-known}
+use Rattle.planner.specs.Order.Falling.{in-order}
 use Rattle.planner.specs.Overload.{ByRelease, shownOf}
 use Rattle.sched.specs.declared.Interval.{Interval}
 use Rattle.planner.specs.declared.overload.Shown.{Shown}
@@ -106,3 +111,39 @@ module _ (J : Jobs) (b : ℕ) (order : List ℕ) where
 
 pub sooner-at : (b : ℕ) (s : Shown) (i : Interval) → s ≡ At i → ltb b (i .b) ≡ sooner b (shownOf s)
 sooner-at b s i e = sym (ap (λ (t : Shown). sooner b (shownOf t)) e)
+
+-- what is found after a look at one end
+
+module _ (J : Jobs) (order : List ℕ) (b : ℕ) (found : Option Interval) where
+  pub try-not : sooner b found ≡ false → found ≡ tryEnd J order b found
+  unfolding tryEnd
+  try-not e = rw (tryEnd, e)
+
+  try-with : sooner b found ≡ true → withEnd b (startFor J b order 0) found ≡ tryEnd J order b found
+  unfolding tryEnd
+  try-with e = rw (tryEnd, e)
+
+  pub try-start : (s o : Option ℕ) → sooner b found ≡ true → s ≡ startFor J b order 0 → s ≡ o → withEnd b o found ≡ tryEnd J order b found
+  try-start s o e r q = ap (λ (t : Option ℕ). withEnd b t found) (sym q ∙ r) ∙ try-with e
+
+-- the jobs from number i on are still to be looked at
+pub record Looking (J : Jobs) (order : List ℕ) (found : Option Interval) (i : ℕ) : Type 0 where
+  pub asked : ByRelease J order
+  pub rest : searchOverload J (reverse order) ≡ searchFrom J (reverse order) (count J - i) i found
+
+module _ (J : Jobs) (order : List ℕ) where
+  pub look-start : ByRelease J order → Looking J order none 0
+  look-start r = record { asked = r; rest = rw sub-zero }
+
+  pub look-next : (found next : Option Interval) (i : ℕ) → i < length (J .deadlines) → next ≡ tryEnd J (reverse order) (deadline J i) found → Looking J order found i → Looking J order next (i + 1)
+  unfolding searchFrom
+  look-next found next i l e v =
+      let more : count J - i ≡ suc (count J - (i + 1)) = omega (arith, v .asked .passes .same-deadlines) in
+      record { asked = v .asked; rest = v .rest ∙ rw (more, e, add-one i) }
+
+  pub look-end : (found : Option Interval) (i : ℕ) → length (J .deadlines) ≤ i → Looking J order found i → found ≡ shownOverload J
+  unfolding searchFrom
+  look-end found i l v =
+      let none-left : count J - i ≡ 0 = omega (arith, v .asked .passes .same-deadlines) in
+      let all : searchOverload J (reverse order) ≡ found = rw none-left at (v .rest) in
+      sym all ∙ search-shown J (v .asked .passes) (reverse order) (rw (v .asked .sorted) (in-order (release J) (count J)))

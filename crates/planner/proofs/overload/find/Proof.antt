@@ -1,0 +1,47 @@
+use borrow.Author.Needs.{needs}
+use Rattle.planner.proofs.overload.find.Statement.{statement}
+use Rattle.planner.proofs.overload.find.Tie as tie
+use Rattle.planner.proofs.overload.find.Reads as reads
+use Rattle.planner.proofs.overload.find.Lts as lts
+use Rattle.planner.proofs.order.sort.Reads as sort-reads
+use Rattle.planner.proofs.overload.search.Reads as search-reads
+
+-- src/overload.rt:91:27
+array-borrow-prefix-order : tie.Need-array-borrow-prefix-order
+array-borrow-prefix-order c = search needs
+
+-- src/overload.rt:91:27
+slice-aggregate-sort : tie.Need-slice-aggregate-sort
+slice-aggregate-sort c = ?
+
+-- src/overload.rt:91:5
+sort-requires : tie.Need-sort-requires
+sort-requires c κs = ?
+
+-- src/overload.rt:92:48
+array-share-prefix-order : tie.Need-array-share-prefix-order
+array-share-prefix-order c = ?
+
+-- src/overload.rt:92:48
+slice-aggregate-search : tie.Need-slice-aggregate-search
+slice-aggregate-search c = ?
+
+-- src/overload.rt:92:5
+search-requires : tie.Need-search-requires
+search-requires c κs = ?
+
+-- src/overload.rt:85:1
+returns : tie.Need-returns
+returns c = search needs
+
+pub find-spec : {M : Type 1} → statement M
+find-spec =
+    tie.close
+    (tie.spec
+    array-borrow-prefix-order
+    slice-aggregate-sort
+    sort-requires
+    array-share-prefix-order
+    slice-aggregate-search
+    search-requires
+    returns)
