@@ -1,8 +1,7 @@
 // Step 1: the overloaded interval that is shown. An end is a deadline, a start is a release.
-use sched::Interval;
 use super::order;
+use sched::Interval;
 ghost use mathlib.Core.Path.{_≡_};
-ghost use mathlib.Core.Bool.{Bool};
 ghost use mathlib.Core.List.{reverse};
 ghost use Rattle.sched.specs.Checks.{Passes};
 ghost use Rattle.sched.specs.Overload.{shownOverload};
@@ -21,7 +20,15 @@ enum Start {
 }
 
 // The greatest release from which the jobs that end by b overfill the slots up to b.
-fn start_for(b: u16, h: u16, q: u16, releases: &[u16], deadlines: &[u16], volumes: &[u16], order: &[u8]) -> Start
+fn start_for(
+    b: u16,
+    h: u16,
+    q: u16,
+    releases: &[u16],
+    deadlines: &[u16],
+    volumes: &[u16],
+    order: &[u8],
+) -> Start
     requires { ⌜ ByRelease (jobsOf h q (now releases) (now deadlines) (now volumes)) (now order) ⌝ }
     ensures { λ r. ⌜ startOf r ≡ startFor (jobsOf h q (now (releases .entry)) (now (deadlines .entry)) (now (volumes .entry))) b (reverse (now (order .entry))) 0 ⌝ }
 {
@@ -52,7 +59,16 @@ fn is_sooner(b: usize, found: Shown) -> bool
 }
 
 // What is found after a look at the end b.
-fn try_end(b: u16, found: Shown, h: u16, q: u16, releases: &[u16], deadlines: &[u16], volumes: &[u16], order: &[u8]) -> Shown
+fn try_end(
+    b: u16,
+    found: Shown,
+    h: u16,
+    q: u16,
+    releases: &[u16],
+    deadlines: &[u16],
+    volumes: &[u16],
+    order: &[u8],
+) -> Shown
     requires { ⌜ ByRelease (jobsOf h q (now releases) (now deadlines) (now volumes)) (now order) ⌝ }
     ensures { λ r. ⌜ shownOf r ≡ tryEnd (jobsOf h q (now (releases .entry)) (now (deadlines .entry)) (now (volumes .entry))) (reverse (now (order .entry))) b (shownOf found) ⌝ }
 {
@@ -68,14 +84,30 @@ fn try_end(b: u16, found: Shown, h: u16, q: u16, releases: &[u16], deadlines: &[
 }
 
 // The ends of all jobs, the least of them that serves.
-fn search(h: u16, q: u16, releases: &[u16], deadlines: &[u16], volumes: &[u16], order: &[u8]) -> Shown
+fn search(
+    h: u16,
+    q: u16,
+    releases: &[u16],
+    deadlines: &[u16],
+    volumes: &[u16],
+    order: &[u8],
+) -> Shown
     requires { ⌜ ByRelease (jobsOf h q (now releases) (now deadlines) (now volumes)) (now order) ⌝ }
     ensures { λ r. ⌜ shownOf r ≡ shownOverload (jobsOf h q (now (releases .entry)) (now (deadlines .entry)) (now (volumes .entry))) ⌝ }
 {
     let mut found = Shown::Nothing;
     let mut i = 0;
     while i < deadlines.len() {
-        found = try_end(deadlines[i], found, h, q, releases, deadlines, volumes, order);
+        found = try_end(
+            deadlines[i],
+            found,
+            h,
+            q,
+            releases,
+            deadlines,
+            volumes,
+            order,
+        );
         i += 1;
     }
     found

@@ -1,3 +1,4 @@
+-- `overload::start_for` meets its contract: the jobs from the back of the order are those of `startFor`, and 64 volumes fit 32 bits.
 use Prim.Native.Nat.{_-_}
 use native.Mathlib.Omega.{arith}
 use borrow.Author.Needs.{needs}
@@ -6,8 +7,6 @@ use Rattle.planner.specs.Lists.{jobsOf}
 use Rattle.planner.proofs.Searching.{Visiting, visit-start, visit-sum, visit-end, visit-known, visit-deadline, visit-volume, visit-span, visit-late, visit-next, visit-found}
 use Rattle.planner.proofs.overload.start_for.Statement.{statement}
 use Rattle.planner.proofs.overload.start_for.Tie as tie
-use Rattle.planner.proofs.overload.start_for.Reads as reads
-use Rattle.planner.proofs.overload.start_for.Lts as lts
 
 abbrev Inv-loop : tie.InvT-loop
 Inv-loop b h q releases deadlines volumes order sum₀ k₀ sum k = Visiting (jobsOf h q releases deadlines volumes) b order sum k
@@ -15,87 +14,86 @@ Inv-loop b h q releases deadlines volumes order sum₀ k₀ sum k = Visiting (jo
 abbrev μ-loop : tie.MeasureT-loop
 μ-loop b h q releases deadlines volumes order sum₀ k₀ sum k = k
 
--- src/overload.rt:30:5
 loop-holds : tie.Need-loop-holds Inv-loop μ-loop
 loop-holds c = visit-start _ _ _ (c .pre)
 
--- src/overload.rt:31:9
 sub-k : tie.Need-sub-k Inv-loop μ-loop
 sub-k c = search needs
 
--- src/overload.rt:32:19
 shared-slice-read-job : tie.Need-shared-slice-read-job Inv-loop μ-loop
 shared-slice-read-job c = search needs
 
--- src/overload.rt:32:19
 cast-job : tie.Need-cast-job Inv-loop μ-loop
 cast-job c = omega (arith, c .shared-slice-known .given (c .before .before .loop .k - 1))
 
--- src/overload.rt:33:12
 mul-if1 : tie.Need-mul-if1 Inv-loop μ-loop
 mul-if1 c = search (needs, visit-deadline _ _ _ _ _ (c .before .before .loop .inv) (c .before .loop-test .taken))
 
--- src/overload.rt:33:12
 shared-slice-read-if1 : tie.Need-shared-slice-read-if1 Inv-loop μ-loop
 shared-slice-read-if1 c = visit-deadline _ _ _ _ _ (c .before .before .before .loop .inv) (c .before .before .loop-test .taken)
 
--- src/overload.rt:34:20
 mul-sum : tie.Need-mul-sum Inv-loop μ-loop
-mul-sum c = search (needs, visit-volume _ _ _ _ _ (c .before .before .before .before .loop .inv) (c .before .before .before .loop-test .taken))
+mul-sum c =
+    let l = c .before .before .before .before in
+    search (needs, visit-volume _ _ _ _ _ (l .loop .inv) (c .before .before .before .loop-test .taken))
 
--- src/overload.rt:34:20
 shared-slice-read-sum : tie.Need-shared-slice-read-sum Inv-loop μ-loop
-shared-slice-read-sum c = visit-volume _ _ _ _ _ (c .before .before .before .before .before .loop .inv) (c .before .before .before .before .loop-test .taken)
+shared-slice-read-sum c =
+    let l = c .before .before .before .before .before in
+    visit-volume _ _ _ _ _ (l .loop .inv) (c .before .before .before .before .loop-test .taken)
 
--- src/overload.rt:34:20
 cast-sum : tie.Need-cast-sum Inv-loop μ-loop
-cast-sum c = omega (arith, c .shared-slice-known3 .given (getD (c .before .before .before .before .before .before .args .order .now) (c .before .before .before .before .before .loop .k - 1) 0))
+cast-sum c =
+    let l = c .before .before .before .before .before in
+    omega (arith, c .shared-slice-known3 .given (getD (l .before .args .order .now) (l .loop .k - 1) 0))
 
--- src/overload.rt:34:13
 add-sum : tie.Need-add-sum Inv-loop μ-loop
-add-sum c = omega (arith, c .shared-slice-known3 .given (getD (c .before .before .before .before .before .before .args .order .now) (c .before .before .before .before .before .loop .k - 1) 0), visit-sum _ _ _ _ _ (c .before .before .before .before .before .loop .inv))
+add-sum c =
+    let l = c .before .before .before .before .before in
+    omega (arith, c .shared-slice-known3 .given (getD (l .before .args .order .now) (l .loop .k - 1) 0), visit-sum _ _ _ _ _ (l .loop .inv))
 
--- src/overload.rt:35:21
 mul-a : tie.Need-mul-a Inv-loop μ-loop
-mul-a c = search (needs, visit-known _ _ _ _ _ (c .before .before .before .before .before .loop .inv) (c .before .before .before .before .loop-test .taken))
+mul-a c =
+    let l = c .before .before .before .before .before in
+    search (needs, visit-known _ _ _ _ _ (l .loop .inv) (c .before .before .before .before .loop-test .taken))
 
--- src/overload.rt:35:21
 shared-slice-read-a : tie.Need-shared-slice-read-a Inv-loop μ-loop
-shared-slice-read-a c = visit-known _ _ _ _ _ (c .before .before .before .before .before .before .loop .inv) (c .before .before .before .before .before .loop-test .taken)
+shared-slice-read-a c =
+    let l = c .before .before .before .before .before .before in
+    visit-known _ _ _ _ _ (l .loop .inv) (c .before .before .before .before .before .loop-test .taken)
 
--- src/overload.rt:36:18
 sub-if2 : tie.Need-sub-if2 Inv-loop μ-loop
-sub-if2 c = omega (arith, c .before .before .if1 .taken, visit-span _ _ _ _ _ (c .before .before .before .before .before .before .loop .inv) (c .before .before .before .before .before .loop-test .taken))
+sub-if2 c =
+    let l = c .before .before .before .before .before .before in
+    omega (arith, c .before .before .if1 .taken, visit-span _ _ _ _ _ (l .loop .inv) (c .before .before .before .before .before .loop-test .taken))
 
--- src/overload.rt:36:17
 cast-if2 : tie.Need-cast-if2 Inv-loop μ-loop
 cast-if2 c = search needs
 
--- src/overload.rt:37:34
 cast-t24 : tie.Need-cast-t24 Inv-loop μ-loop
-cast-t24 c = omega (arith, c .before .shared-slice-known4 .given (getD (c .before .before .before .before .before .before .before .before .args .order .now) (c .before .before .before .before .before .before .before .loop .k - 1) 0))
+cast-t24 c =
+    let l = c .before .before .before .before .before .before .before in
+    omega (arith, c .before .shared-slice-known4 .given (getD (l .before .args .order .now) (l .loop .k - 1) 0))
 
--- src/overload.rt:37:17
 returns : tie.Need-returns Inv-loop μ-loop
-returns c = visit-found _ _ _ _ _ (c .before .before .before .before .before .before .before .loop .inv) (c .before .before .before .before .before .before .loop-test .taken) (c .before .before .before .if1 .taken) (c .if2 .taken)
+returns c =
+    let l = c .before .before .before .before .before .before .before in
+    visit-found _ _ _ _ _ (l .loop .inv) (c .before .before .before .before .before .before .loop-test .taken) (c .before .before .before .if1 .taken) (c .if2 .taken)
 
--- src/overload.rt:30:5
 loop-less : tie.Need-loop-less Inv-loop μ-loop
 loop-less c = search needs
 
--- src/overload.rt:30:5
 loop-again : tie.Need-loop-again Inv-loop μ-loop
-loop-again c = visit-next _ _ _ _ _ (c .before .before .before .before .before .before .before .loop .inv) (c .before .before .before .before .before .before .loop-test .taken) (c .before .before .before .if1 .taken) (search needs) (c .if2 .left)
+loop-again c =
+    let l = c .before .before .before .before .before .before .before in
+    visit-next _ _ _ _ _ (l .loop .inv) (c .before .before .before .before .before .before .loop-test .taken) (c .before .before .before .if1 .taken) (search needs) (c .if2 .left)
 
--- src/overload.rt:30:5
 loop-less-2 : tie.Need-loop-less-2 Inv-loop μ-loop
 loop-less-2 c = search needs
 
--- src/overload.rt:30:5
 loop-again-2 : tie.Need-loop-again-2 Inv-loop μ-loop
 loop-again-2 c = visit-late _ _ _ _ _ (c .before .before .before .before .loop .inv) (c .before .before .before .loop-test .taken) (c .if1 .left)
 
--- src/overload.rt:24:1
 returns-2 : tie.Need-returns-2 Inv-loop μ-loop
 returns-2 c = visit-end _ _ _ _ _ (c .before .loop .inv) (c .loop-test .left)
 
