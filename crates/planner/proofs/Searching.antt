@@ -36,11 +36,15 @@ module _ (J : Jobs) (b j : ℕ) (js : List ℕ) (sum : ℕ) where
   unfolding startFor
   start-next l m = rw (le-leb (deadline J j) b l, le-ltb (b - release J j) (sum + volume J j) m, startFor)
 
--- the last of the first k jobs of the order is the next
-last-first : (order : List ℕ) (k : ℕ) → 0 < k → k ≤ length order → reverse (take k order) ≡ getD order (k - 1) 0 ∷ reverse (take (k - 1) order)
+-- the last of the first k jobs of an order
+abbrev lastOf : List ℕ → ℕ → ℕ
+lastOf order k = getD order (k - 1) 0
+
+-- it is the next
+last-first : (order : List ℕ) (k : ℕ) → 0 < k → k ≤ length order → reverse (take k order) ≡ lastOf order k ∷ reverse (take (k - 1) order)
 last-first order k p m =
     let up : suc (k - 1) ≡ k = omega arith in
-    ap (λ (i : ℕ). reverse (take i order)) (sym up) ∙ ap reverse (take-suc order (k - 1) 0 (omega arith)) ∙ reverse-append (take (k - 1) order) (getD order (k - 1) 0 ∷ [])
+    ap (λ (i : ℕ). reverse (take i order)) (sym up) ∙ ap reverse (take-suc order (k - 1) 0 (omega arith)) ∙ reverse-append (take (k - 1) order) (lastOf order k ∷ [])
 
 -- the last k jobs by falling release are still to be visited
 pub record Visiting (J : Jobs) (b : ℕ) (order : List ℕ) (sum k : ℕ) : Type 0 where
@@ -72,42 +76,47 @@ module _ (J : Jobs) (b : ℕ) (order : List ℕ) where
     visit-end m = let z : k ≡ 0 = omega arith in sym (rw z at (v .rest))
 
     module _ (more : 0 < k) where
-      pub visit-known : getD order (k - 1) 0 < count J
+      pub visit-known : lastOf order k < count J
       visit-known =
           rw (v .asked .sorted) (rising-known (release J) (count J) (k - 1) (omega (arith, v .within, order-length (v .asked))))
 
-      pub visit-deadline : getD order (k - 1) 0 < length (J .deadlines)
+      pub visit-deadline : lastOf order k < length (J .deadlines)
       visit-deadline = omega (arith, visit-known, v .asked .passes .same-deadlines)
 
-      pub visit-volume : getD order (k - 1) 0 < length (J .volumes)
+      pub visit-volume : lastOf order k < length (J .volumes)
       visit-volume = omega (arith, visit-known, v .asked .passes .same-volumes)
 
-      pub visit-span : release J (getD order (k - 1) 0) < deadline J (getD order (k - 1) 0)
-      visit-span = v .asked .passes .good (getD order (k - 1) 0) visit-known .span
+      pub visit-span : release J (lastOf order k) < deadline J (lastOf order k)
+      visit-span = v .asked .passes .good (lastOf order k) visit-known .span
 
-      first-last : startFor J b (reverse order) 0 ≡ startFor J b (getD order (k - 1) 0 ∷ reverse (take (k - 1) order)) sum
+      first-last : startFor J b (reverse order) 0 ≡ startFor J b (lastOf order k ∷ reverse (take (k - 1) order)) sum
       first-last = v .rest ∙ ap (λ (l : List ℕ). startFor J b l sum) (last-first order k more (v .within))
 
-      pub visit-late : b < deadline J (getD order (k - 1) 0) → Visiting J b order sum (k - 1)
+      pub visit-late : b < deadline J (lastOf order k) → Visiting J b order sum (k - 1)
       visit-late l =
           record {
             asked = v .asked;
             within = omega (arith, v .within);
             small = omega (arith, v .small, v .within);
-            rest = first-last ∙ start-late J b (getD order (k - 1) 0) (reverse (take (k - 1) order)) sum l;
+            rest = first-last ∙ start-late J b (lastOf order k) (reverse (take (k - 1) order)) sum l;
           }
 
-      pub visit-next : deadline J (getD order (k - 1) 0) ≤ b → volume J (getD order (k - 1) 0) < 65536 → sum + volume J (getD order (k - 1) 0) ≤ b - release J (getD order (k - 1) 0) → Visiting J b order (sum + volume J (getD order (k - 1) 0)) (k - 1)
+      pub visit-next :
+        deadline J (lastOf order k) ≤ b → volume J (lastOf order k) < 65536 →
+        sum + volume J (lastOf order k) ≤ b - release J (lastOf order k) →
+        Visiting J b order (sum + volume J (lastOf order k)) (k - 1)
       visit-next l w m =
           record {
             asked = v .asked;
             within = omega (arith, v .within);
             small = omega (arith, v .small, v .within);
-            rest = first-last ∙ start-next J b (getD order (k - 1) 0) (reverse (take (k - 1) order)) sum l m;
+            rest = first-last ∙ start-next J b (lastOf order k) (reverse (take (k - 1) order)) sum l m;
           }
 
-      pub visit-found : deadline J (getD order (k - 1) 0) ≤ b → b - release J (getD order (k - 1) 0) < sum + volume J (getD order (k - 1) 0) → some (release J (getD order (k - 1) 0)) ≡ startFor J b (reverse order) 0
-      visit-found l m = sym (first-last ∙ start-found J b (getD order (k - 1) 0) (reverse (take (k - 1) order)) sum l m)
+      pub visit-found :
+        deadline J (lastOf order k) ≤ b → b - release J (lastOf order k) < sum + volume J (lastOf order k) →
+        some (release J (lastOf order k)) ≡ startFor J b (reverse order) 0
+      visit-found l m = sym (first-last ∙ start-found J b (lastOf order k) (reverse (take (k - 1) order)) sum l m)
 
 pub sooner-at : (b : ℕ) (s : Shown) (i : Interval) → s ≡ At i → ltb b (i .b) ≡ sooner b (shownOf s)
 sooner-at b s i e = sym (ap (λ (t : Shown). sooner b (shownOf t)) e)
@@ -123,7 +132,8 @@ module _ (J : Jobs) (order : List ℕ) (b : ℕ) (found : Option Interval) where
   unfolding tryEnd
   try-with e = rw (tryEnd, e)
 
-  pub try-start : (s o : Option ℕ) → sooner b found ≡ true → s ≡ startFor J b order 0 → s ≡ o → withEnd b o found ≡ tryEnd J order b found
+  pub try-start :
+    (s o : Option ℕ) → sooner b found ≡ true → s ≡ startFor J b order 0 → s ≡ o → withEnd b o found ≡ tryEnd J order b found
   try-start s o e r q = ap (λ (t : Option ℕ). withEnd b t found) (sym q ∙ r) ∙ try-with e
 
 -- the jobs from number i on are still to be looked at
@@ -135,7 +145,9 @@ module _ (J : Jobs) (order : List ℕ) where
   pub look-start : ByRelease J order → Looking J order none 0
   look-start r = record { asked = r; rest = rw sub-zero }
 
-  pub look-next : (found next : Option Interval) (i : ℕ) → i < length (J .deadlines) → next ≡ tryEnd J (reverse order) (deadline J i) found → Looking J order found i → Looking J order next (i + 1)
+  pub look-next :
+    (found next : Option Interval) (i : ℕ) → i < length (J .deadlines) → next ≡ tryEnd J (reverse order) (deadline J i) found →
+    Looking J order found i → Looking J order next (i + 1)
   unfolding searchFrom
   look-next found next i l e v =
       let more : count J - i ≡ suc (count J - (i + 1)) = omega (arith, v .asked .passes .same-deadlines) in
