@@ -102,9 +102,9 @@ module _ (J : Jobs) (b : ℕ) (order : List ℕ) where
           }
 
       pub visit-next :
-        deadline J (lastOf order k) ≤ b → volume J (lastOf order k) < 65536 →
-        sum + volume J (lastOf order k) ≤ b - release J (lastOf order k) →
-        Visiting J b order (sum + volume J (lastOf order k)) (k - 1)
+          deadline J (lastOf order k) ≤ b → volume J (lastOf order k) < 65536 →
+          sum + volume J (lastOf order k) ≤ b - release J (lastOf order k) →
+          Visiting J b order (sum + volume J (lastOf order k)) (k - 1)
       visit-next l w m =
           record {
             asked = v .asked;
@@ -114,8 +114,8 @@ module _ (J : Jobs) (b : ℕ) (order : List ℕ) where
           }
 
       pub visit-found :
-        deadline J (lastOf order k) ≤ b → b - release J (lastOf order k) < sum + volume J (lastOf order k) →
-        some (release J (lastOf order k)) ≡ startFor J b (reverse order) 0
+          deadline J (lastOf order k) ≤ b → b - release J (lastOf order k) < sum + volume J (lastOf order k) →
+          some (release J (lastOf order k)) ≡ startFor J b (reverse order) 0
       visit-found l m = sym (first-last ∙ start-found J b (lastOf order k) (reverse (take (k - 1) order)) sum l m)
 
 pub sooner-at : (b : ℕ) (s : Shown) (i : Interval) → s ≡ At i → ltb b (i .b) ≡ sooner b (shownOf s)
@@ -133,7 +133,7 @@ module _ (J : Jobs) (order : List ℕ) (b : ℕ) (found : Option Interval) where
   try-with e = rw (tryEnd, e)
 
   pub try-start :
-    (s o : Option ℕ) → sooner b found ≡ true → s ≡ startFor J b order 0 → s ≡ o → withEnd b o found ≡ tryEnd J order b found
+      (s o : Option ℕ) → sooner b found ≡ true → s ≡ startFor J b order 0 → s ≡ o → withEnd b o found ≡ tryEnd J order b found
   try-start s o e r q = ap (λ (t : Option ℕ). withEnd b t found) (sym q ∙ r) ∙ try-with e
 
 -- the jobs from number i on are still to be looked at
@@ -146,8 +146,8 @@ module _ (J : Jobs) (order : List ℕ) where
   look-start r = record { asked = r; rest = rw sub-zero }
 
   pub look-next :
-    (found next : Option Interval) (i : ℕ) → i < length (J .deadlines) → next ≡ tryEnd J (reverse order) (deadline J i) found →
-    Looking J order found i → Looking J order next (i + 1)
+      (found next : Option Interval) (i : ℕ) → i < length (J .deadlines) → next ≡ tryEnd J (reverse order) (deadline J i) found →
+      Looking J order found i → Looking J order next (i + 1)
   unfolding searchFrom
   look-next found next i l e v =
       let more : count J - i ≡ suc (count J - (i + 1)) = omega (arith, v .asked .passes .same-deadlines) in
