@@ -1,0 +1,4 @@
+pub mod Fronts
+pub mod Inserting
+pub mod Sorting
+pub mod Searching
