@@ -7,8 +7,6 @@ pub mod Exchange
 pub mod Left
 pub mod Placements
 pub mod Search
-pub mod Whole
-pub mod Theorems
 pub mod Find
 pub mod Carry
 pub mod OneSlotMore
@@ -16,4 +14,9 @@ pub mod Helping
 pub mod Shortage
 pub mod Touching
 pub mod Table
+pub mod FromState
+pub mod Whole
+pub mod Sets
+pub mod Room
+pub mod Theorems
 pub mod Overload

@@ -27,7 +27,7 @@ pub record PlacedFrom (J : Jobs) (S : ℕ → Bool) (t : ℕ) (L : State) (place
   pub own : (i : ℕ) → i < length placed → getD placed i 0 < count J → OwnSlot J (getD placed i 0) (t + i)
   pub often : (j : ℕ) → j < count J → times j placed ≤ L j
 
-times-empty : (j : ℕ) → times j [] ≡ 0
+pub times-empty : (j : ℕ) → times j [] ≡ 0
 unfolding times
 times-empty j = refl
 
@@ -39,15 +39,15 @@ pub times-other : (j x : ℕ) (rest : List ℕ) → x ≢ j → times j (x ∷ r
 unfolding times
 times-other j x rest f = rw (ne-eqb x j f, times)
 
-units-empty : (J : Jobs) → units J [] ≡ 0
+pub units-empty : (J : Jobs) → units J [] ≡ 0
 unfolding units
 units-empty J = refl
 
-units-job : (J : Jobs) (x : ℕ) (rest : List ℕ) → x < count J → units J (x ∷ rest) ≡ suc (units J rest)
+pub units-job : (J : Jobs) (x : ℕ) (rest : List ℕ) → x < count J → units J (x ∷ rest) ≡ suc (units J rest)
 unfolding units
 units-job J x rest l = rw (lt-ltb x (count J) l, units)
 
-units-none : (J : Jobs) (x : ℕ) (rest : List ℕ) → count J ≤ x → units J (x ∷ rest) ≡ units J rest
+pub units-none : (J : Jobs) (x : ℕ) (rest : List ℕ) → count J ≤ x → units J (x ∷ rest) ≡ units J rest
 unfolding units
 units-none J x rest l = rw (le-ltb x (count J) l, units)
 

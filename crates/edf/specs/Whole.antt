@@ -1,20 +1,20 @@
 -- The run of a whole list of jobs, from slot 0 to H.
-use Prim.Native.Nat.{ℕ, zero, suc, _+_, _≤_, _<_}
-use mathlib.Core.Path.{_≡_, refl, ap, sym, _∙_}
-use mathlib.Core.Bool.{Bool, true, false}
+use Prim.Native.Nat.{ℕ, _+_, _≤_, _<_}
+use mathlib.Core.Path.{_≡_, ap, sym, _∙_}
+use mathlib.Core.Bool.{Bool}
 use mathlib.Core.List.{List}
 use native.Mathlib.Omega.{arith}
-use lib.ListN.{length, getD}
-use Rattle.sched.specs.Bounded.{sumBelow, total}
+use lib.ListN.{length}
+use Rattle.sched.specs.Bounded.{sumBelow}
 use Rattle.sched.specs.Bounded.Laws.{sum-total}
 use Rattle.sched.specs.Jobs.{Jobs, count, volume, totalVolume}
-use Rattle.sched.specs.Checks.{Passes}
 use Rattle.sched.specs.Slots.{awake}
-use Rattle.sched.specs.Workable.{Placement, Greatest, units, workable}
+use Rattle.sched.specs.Workable.{Placement, Greatest, workable}
 use Rattle.edf.specs.Run.{spans, vol, left, bytes, allUnits, edfVolume}
 use Rattle.edf.specs.Left.{vol-and-left}
 use Rattle.edf.specs.Placements.{PlacedFrom, placed-at-most, bytes-long, bytes-units, run-placed}
 use Rattle.edf.specs.Search.{search-is-run}
+use Rattle.edf.specs.Find.{part-positive}
 
 module _ (J : Jobs) (S : List Bool) where
   placed-whole : (placed : List ℕ) → Placement J S placed → PlacedFrom J (awake S) 0 (volume J) placed
@@ -60,3 +60,8 @@ module _ (J : Jobs) (same : length (J .volumes) ≡ count J) where
   pub served-and-lost : (S : List Bool) → edfVolume J S + allUnits (spans J) (left (spans J) (awake S) (volume J) (J .horizon)) ≡ totalVolume J
   unfolding edfVolume
   served-and-lost S = vol-and-left (spans J) (awake S) (volume J) (J .horizon) ∙ volumes-sum
+
+  -- nothing is left of any job where all is served
+  pub nothing-lost : (S : List Bool) → edfVolume J S ≡ totalVolume J → (j : ℕ) → j < count J → left (spans J) (awake S) (volume J) (J .horizon) j ≡ 0
+  nothing-lost S e j l =
+      omega (arith, served-and-lost S, part-positive (count J) (left (spans J) (awake S) (volume J) (J .horizon)) j l)
