@@ -1,5 +1,6 @@
 -- Earliest deadline first. `Theorems` has the statements about the words of 01; the other files lead to them.
 pub mod Run
+pub mod Chain
 pub mod Pick
 pub mod Units
 pub mod Apart
@@ -18,5 +19,5 @@ pub mod FromState
 pub mod Whole
 pub mod Sets
 pub mod Room
-pub mod Theorems
 pub mod Overload
+pub mod Theorems

@@ -6,9 +6,10 @@ use mathlib.Core.Bool.{Bool, true, false}
 use mathlib.Core.List.{List}
 use mathlib.Core.Logic.{_⊎_, inl, inr, _↔_, _≢_}
 use native.Mathlib.Omega.{arith}
+use native.Mathlib.Decide.{ℕ-discrete}
 use borrow.Author.Tests.{eqb-true, eq-eqb}
 use lib.ListN.{length, replicate, length-replicate, getD-replicate, length-set}
-use lib.Seq.{getD-set-other}
+use lib.Seq.{getD-set-same, getD-set-other}
 use Rattle.sched.specs.Bounded.Laws.{by-bool, true-not-false}
 use Rattle.sched.specs.Jobs.{Jobs, count, deadline, volume, totalVolume}
 use Rattle.sched.specs.Checks.{Passes}
@@ -25,6 +26,7 @@ use Rattle.edf.specs.Table.{fill-awake, fill-is-run, run-feasible}
 use Rattle.edf.specs.Whole.{run-greatest, search-finds-run, served-and-lost, nothing-lost}
 use Rattle.edf.specs.Sets.{woken-extra, wake-awake, touching, skeleton-windows}
 use Rattle.edf.specs.Room.{no-overload-fits}
+use Rattle.edf.specs.Overload.Counting.{feasible-no-overload}
 
 -- The workable volume
 
@@ -81,37 +83,44 @@ helps-iff-lacking J S x p long l sleeps =
           (omega (arith, within (k .lossy .job) (k .lossy .below), k .lossy .at-end)) (k .carried))))
 
 -- A slot that was tried in vain never has to be tried again.
-pub unhelpful-stays : (J : Jobs) (S : List Bool) (x y : ℕ) → Passes J → length S ≡ J .horizon → x < J .horizon → awake S x ≡ false →
-    helps J S x ≡ false → y < J .horizon → y ≢ x → helps J (wakeSlot S y) x ≡ false
+pub unhelpful-stays : (J : Jobs) → Passes J → (S : List Bool) (x y : ℕ) → length S ≡ J .horizon → x < J .horizon → y < J .horizon →
+    awake S x ≡ false → helps J S x ≡ false → helps J (wakeSlot S y) x ≡ false
 unfolding edfVolume
-unhelpful-stays J S x y p long l sleeps vain m f = by-bool (awake S y) awake-already asleep-too
+unhelpful-stays J p S x y long l m sleeps vain = by-bool (helps J (wakeSlot S y) x) helped (λ q. q)
   where
-    awake-already : awake S y ≡ true → helps J (wakeSlot S y) x ≡ false
-    awake-already e = rw (wake-awake S y e) vain
+    long-y : length (wakeSlot S y) ≡ J .horizon
+    long-y = length-set S y true ∙ long
 
-    asleep-too : awake S y ≡ false → helps J (wakeSlot S y) x ≡ false
-    asleep-too e = by-bool (helps J (wakeSlot S y) x) helped (λ q. q)
+    -- y another sleeping slot
+    apart : x ≢ y → awake S y ≡ false → helps J (wakeSlot S y) x ≡ true → helps J S x ≡ true
+    apart f e q =
+        true-helps J S long x
+        (helps-before (spans J) (awake S) (awake (wakeSlot S x)) (awake (wakeSlot S y)) (awake (wakeSlot (wakeSlot S y) x)) (volume J) x y (J .horizon)
+          (woken-extra S x (rw long l) sleeps) (woken-extra S y (rw long m) e)
+          (woken-extra (wakeSlot S y) x (rw long-y l) (getD-set-other S y x true false f ∙ sleeps)) l
+          (λ j b. p .good j b .within) (helps-true J (wakeSlot S y) long-y x q))
+
+    -- an awake slot is worth nothing more
+    again : x ≡ y → helps J (wakeSlot S y) x ≡ true → ⊥
+    again e q =
+        let w : awake (wakeSlot S y) x ≡ true = rw e (getD-set-same S y true false (rw long m)) in
+        omega (arith, helps-true J (wakeSlot S y) long-y x q, ap (λ (T : List Bool). edfVolume J T) (wake-awake (wakeSlot S y) x w))
+
+    helped : helps J (wakeSlot S y) x ≡ true → helps J (wakeSlot S y) x ≡ false
+    helped q = go (ℕ-discrete x y)
       where
-        long-y : length (wakeSlot S y) ≡ J .horizon
-        long-y = length-set S y true ∙ long
-
-        helped : helps J (wakeSlot S y) x ≡ true → helps J (wakeSlot S y) x ≡ false
-        helped q =
-            true-not-false (helps J S x)
-            (true-helps J S long x
-              (helps-before (spans J) (awake S) (awake (wakeSlot S x)) (awake (wakeSlot S y)) (awake (wakeSlot (wakeSlot S y) x)) (volume J) x y (J .horizon)
-                (woken-extra S x (rw long l) sleeps) (woken-extra S y (rw long m) e)
-                (woken-extra (wakeSlot S y) x (rw long-y l) (getD-set-other S y x true false (λ i. f (sym i)) ∙ sleeps)) l
-                (λ j b. p .good j b .within) (helps-true J (wakeSlot S y) long-y x q)))
-            vain
+        go : Dec (x ≡ y) → helps J (wakeSlot S y) x ≡ false
+        go (yes e) = absurd (again e q)
+        go (no f) =
+            by-bool (awake S y) (λ e. rw (wake-awake S y e) vain)
+            (λ e. true-not-false (helps J S x) (apart f e q) vain)
 
 -- Step 3 finds its slot: "Where step 1 found no overload such a slot always exists".
-pub some-slot-wakes : (J : Jobs) (S : List Bool) → Passes J → ((a b : ℕ) → overloaded J a b ≡ false) → isSkeleton J S ≡ true → length S ≡ J .horizon →
+pub some-slot-wakes : (J : Jobs) → Passes J → ((a b : ℕ) → overloaded J a b ≡ false) → (S : List Bool) → length S ≡ J .horizon → isSkeleton J S ≡ true →
     workable J S < totalVolume J → (x : ℕ) × (x < J .horizon) × (wakes J S x ≡ true)
 unfolding edfVolume wakes
-some-slot-wakes J S p free skeleton long short =
-    let fits = no-overload-fits J p free in
-    let (e, m, k, carried) = touching-lacks (spans J) (awake S) (volume J) (J .horizon) fits
+some-slot-wakes J p free S long skeleton short =
+    let (e, m, k, carried) = touching-lacks (spans J) (awake S) (volume J) (J .horizon) (no-overload-fits J p free)
       (omega (arith, workable-is-edf J S long, served-and-lost J (p .same-volumes) S)) (skeleton-windows J S skeleton) in
     let x = k .slot in
     let l : x < J .horizon = omega (arith, k .below) in
@@ -148,3 +157,7 @@ pub no-overload-feasible : (J : Jobs) → Passes J → ((a b : ℕ) → overload
 no-overload-feasible J p free =
     let all = replicate (J .horizon) true in
     (tableOf J all, table-feasible J all p (length-replicate (J .horizon) true) (no-overload-workable J p free))
+
+-- There is a feasible table exactly where no interval is overloaded.
+pub feasible-iff-no-overload : (J : Jobs) → Passes J → ((table : List ℕ) × Feasible J table) ↔ ((a b : ℕ) → overloaded J a b ≡ false)
+feasible-iff-no-overload J p = ((λ f. feasible-no-overload J (f .0) (f .1)), no-overload-feasible J p)
