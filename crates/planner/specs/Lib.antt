@@ -2,3 +2,5 @@
 pub mod Lists
 pub mod Order
 pub mod Mask
+pub mod Ranks
+pub mod Runs

@@ -1,0 +1,63 @@
+// Runs of earliest deadline first over the awake slots of a table. The order has the jobs by rank: by deadline, equal ones by number.
+ghost use mathlib.Core.Path.{_≡_};
+ghost use Prim.Native.Nat.{ℕ, _≤_, _<_};
+ghost use lib.ListN.{length, getD};
+ghost use Rattle.edf.specs.Run.{servable};
+ghost use Rattle.edf.specs.Search.{stateOf};
+ghost use Rattle.planner.specs.Mask.{bit};
+ghost use Rattle.planner.specs.Ranks.{spansOf, Outside, ReadyAt, Ranked, CanServe, servedByte, servedLeft, servedBits};
+ghost use Rattle.planner.specs.Runs.{Sooner, Serves};
+
+// The ranks that a slot may serve, a bit each; but for what is served they stay so until slot `until`.
+struct Ready {
+    mask: u64,
+    until: usize,
+}
+
+struct Served {
+    byte: u8,
+    mask: u64,
+}
+
+// Slot x if it lies behind t and before `until`, else `until`.
+fn sooner(t: usize, x: usize, until: usize) -> usize
+    ensures { λ r. ⌜ Sooner t x until r ⌝ }
+{
+    if t < x {
+        if x < until { x } else { until }
+    } else {
+        until
+    }
+}
+
+// 1 if slot t may serve a unit of the job.
+fn may_serve(t: usize, job: usize, releases: &[u16], deadlines: &[u16], left: &[u16]) -> u64
+    requires { ⌜ (job < length (now releases)) × (job < length (now deadlines)) × (job < length (now left)) ⌝ }
+    ensures { λ r. ⌜ r ≡ bit (servable (spansOf (now (releases .entry)) (now (deadlines .entry))) t (stateOf (now (left .entry))) job) ⌝ }
+{
+    if t < releases[job] as usize {
+        return 0;
+    }
+    if deadlines[job] as usize <= t {
+        return 0;
+    }
+    if left[job] == 0 { 0 } else { 1 }
+}
+
+// Serves the lowest of the ranks.
+fn serve(mask: u64, left: &mut [u16], order: &[u8]) -> Served
+    requires { ⌜ (0 < mask → CanServe mask (now order) (now left)) ⌝ }
+    ensures { λ r. ⌜ Serves mask (now (order .entry)) (now (left .entry)) (r .byte) (r .mask) (now (left .exit)) ⌝ }
+{
+    if mask == 0 {
+        return Served { byte: 254, mask: 0 };
+    }
+    let rank = u64::trailing_zeros(mask);
+    let byte = order[rank as usize];
+    let job = byte as usize;
+    left[job] -= 1;
+    if left[job] == 0 {
+        return Served { byte, mask: mask - (1u64 << rank) };
+    }
+    Served { byte, mask }
+}
