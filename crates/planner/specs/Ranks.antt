@@ -11,7 +11,7 @@ use Rattle.sched.specs.Slots.{idle}
 use Rattle.sched.specs.Workable.{lower}
 use Rattle.edf.specs.Run.{Spans, State, servable}
 use Rattle.edf.specs.Search.{stateOf}
-use Rattle.edf.specs.Chain.{jobAt}
+use Rattle.edf.specs.Chain.{Sooner, jobAt}
 use Rattle.planner.specs.Mask.{mask}
 pub mod Laws
 
@@ -38,12 +38,14 @@ pub record ReadyAt (F : Spans) (order left : List ℕ) (t bits u : ℕ) : Type 0
   pub bits-are : bits ≡ mask (servesRank F order t (stateOf left)) (F .n)
   pub quiet : Quiet F order t u
 
--- every rank has a job, and arrays have a place for it
+-- every job has a rank, ranks rise by deadline and number, and the arrays have a place for each
 pub record Ranked (F : Spans) (order left : List ℕ) : Type 0 where
   pub few : F .n ≤ 64
   pub long : F .n ≤ length order
   pub room : F .n ≤ length left
   pub known : (k : ℕ) → k < F .n → jobAt order k < F .n
+  pub ranked : (j : ℕ) → j < F .n → (k : ℕ) × (k < F .n) × (jobAt order k ≡ j)
+  pub rising : (i k : ℕ) → i < k → k < F .n → Sooner (F .d) (jobAt order i) (jobAt order k)
 
 -- Serving the lowest bit: the slot's byte, what is left, and the bits afterwards
 
