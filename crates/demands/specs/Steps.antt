@@ -22,7 +22,7 @@ use Rattle.skeleton.specs.Waking.Laws.{all-length, woken-energy, woken-full, wo
 
 module _ (J : Jobs) (p : Passes J) (none-over : (a b : ℕ) → overloaded J a b ≡ false) where
   one : AlwaysOne J
-  one S n k v = some-slot-wakes J p none-over S n k v
+  one S n k v = some-slot-wakes J S p none-over k n v
 
   pub extended-length : length (extended J) ≡ J .horizon
   unfolding extended
