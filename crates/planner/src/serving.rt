@@ -14,6 +14,12 @@ struct Ready {
     until: usize,
 }
 
+fn wide(x: u16) -> usize
+    ensures { λ r. ⌜ r ≡ x ⌝ }
+{
+    x as usize
+}
+
 struct Served {
     byte: u8,
     mask: u64,
@@ -33,7 +39,7 @@ fn sooner(t: usize, x: usize, until: usize) -> usize
 // 1 if slot t may serve a unit of the job.
 fn may_serve(t: usize, job: usize, releases: &[u16], deadlines: &[u16], left: &[u16]) -> u64
     requires { ⌜ (job < length (now releases)) × (job < length (now deadlines)) × (job < length (now left)) ⌝ }
-    ensures { λ r. ⌜ r ≡ bit (servable (spansOf (now (releases .entry)) (now (deadlines .entry))) t (stateOf (now (left .entry))) job) ⌝ }
+    ensures { λ r. ⌜ (r ≡ bit (servable (spansOf (now (releases .entry)) (now (deadlines .entry))) t (stateOf (now (left .entry))) job)) × (r ≤ 1) ⌝ }
 {
     if t < releases[job] as usize {
         return 0;
@@ -42,6 +48,24 @@ fn may_serve(t: usize, job: usize, releases: &[u16], deadlines: &[u16], left: &[
         return 0;
     }
     if left[job] == 0 { 0 } else { 1 }
+}
+
+// The ranks that slot t may serve.
+fn look(t: usize, releases: &[u16], deadlines: &[u16], left: &[u16], order: &[u8]) -> Ready
+    requires { ⌜ (length (now deadlines) ≡ length (now releases)) × (t < 65536) × Ranked (spansOf (now releases) (now deadlines)) (now order) (now left) ⌝ }
+    ensures { λ r. ⌜ ReadyAt (spansOf (now (releases .entry)) (now (deadlines .entry))) (now (order .entry)) (now (left .entry)) t (r .mask) (r .until) ⌝ }
+{
+    let mut mask: u64 = 0;
+    let mut until: usize = 65536;
+    let mut k = releases.len();
+    while 0 < k {
+        k -= 1;
+        let job = order[k] as usize;
+        mask = 2 * mask + may_serve(t, job, releases, deadlines, left);
+        until = sooner(t, wide(releases[job]), until);
+        until = sooner(t, wide(deadlines[job]), until);
+    }
+    Ready { mask, until }
 }
 
 // Serves the lowest of the ranks.
