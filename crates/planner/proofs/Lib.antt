@@ -2,3 +2,4 @@ pub mod Inserting
 pub mod Sorting
 pub mod LowestBit
 pub mod Readiness
+pub mod SlotBySlot

@@ -6,7 +6,10 @@ ghost use Rattle.edf.specs.Run.{servable};
 ghost use Rattle.edf.specs.Search.{stateOf};
 ghost use Rattle.planner.specs.Mask.{bit};
 ghost use Rattle.planner.specs.Ranks.{spansOf, Outside, ReadyAt, Ranked, CanServe, servedByte, servedLeft, servedBits};
-ghost use Rattle.planner.specs.Runs.{Sooner, Serves};
+ghost use Rattle.planner.specs.Runs.{Sooner, Serves, Current, SlotReady, SlotDone, Runnable, RunDone};
+
+const ASLEEP: u8 = 255;
+const IDLE: u8 = 254;
 
 // The ranks that a slot may serve, a bit each; but for what is served they stay so until slot `until`.
 struct Ready {
@@ -74,7 +77,7 @@ fn serve(mask: u64, left: &mut [u16], order: &[u8]) -> Served
     ensures { λ r. ⌜ Serves mask (now (order .entry)) (now (left .entry)) (r .byte) (r .mask) (now (left .exit)) ⌝ }
 {
     if mask == 0 {
-        return Served { byte: 254, mask: 0 };
+        return Served { byte: IDLE, mask: 0 };
     }
     let rank = u64::trailing_zeros(mask);
     let byte = order[rank as usize];
@@ -84,4 +87,45 @@ fn serve(mask: u64, left: &mut [u16], order: &[u8]) -> Served
         return Served { byte, mask: mask - (1u64 << rank) };
     }
     Served { byte, mask }
+}
+
+// What slot t may serve: as it was last, or looked at anew.
+fn current(t: usize, last: Ready, releases: &[u16], deadlines: &[u16], left: &[u16], order: &[u8]) -> Ready
+    requires { ⌜ (length (now deadlines) ≡ length (now releases)) × (t < 65536) × Ranked (spansOf (now releases) (now deadlines)) (now order) (now left) × Current (spansOf (now releases) (now deadlines)) (now order) (now left) t (last .mask) (last .until) ⌝ }
+    ensures { λ r. ⌜ ReadyAt (spansOf (now (releases .entry)) (now (deadlines .entry))) (now (order .entry)) (now (left .entry)) t (r .mask) (r .until) ⌝ }
+{
+    if t < last.until {
+        return last;
+    }
+    look(t, releases, deadlines, left, order)
+}
+
+// Serves slot t if it is awake.
+fn slot(t: usize, last: Ready, releases: &[u16], deadlines: &[u16], left: &mut [u16], order: &[u8], table: &mut [u8]) -> Ready
+    requires { ⌜ (length (now deadlines) ≡ length (now releases)) × SlotReady (spansOf (now releases) (now deadlines)) (now order) (now left) (now table) t (last .mask) (last .until) ⌝ }
+    ensures { λ r. ⌜ SlotDone (spansOf (now (releases .entry)) (now (deadlines .entry))) (now (order .entry)) (now (left .entry)) (now (table .entry)) t (now (left .exit)) (now (table .exit)) (r .mask) (r .until) ⌝ }
+{
+    if table[t] == ASLEEP {
+        return last;
+    }
+    let fresh = current(t, last, releases, deadlines, left, order);
+    let served = serve(fresh.mask, left, order);
+    table[t] = served.byte;
+    Ready {
+        mask: served.mask,
+        until: fresh.until,
+    }
+}
+
+// Serves the awake slots of a table in rising order; what is not served stays in left.
+pub fn run(releases: &[u16], deadlines: &[u16], left: &mut [u16], order: &[u8], table: &mut [u8])
+    requires { ⌜ (length (now deadlines) ≡ length (now releases)) × Runnable (spansOf (now releases) (now deadlines)) (now order) (now left) (now table) ⌝ }
+    ensures { λ r. ⌜ RunDone (spansOf (now (releases .entry)) (now (deadlines .entry))) (now (left .entry)) (now (table .entry)) (now (left .exit)) (now (table .exit)) ⌝ }
+{
+    let mut last = Ready { mask: 0, until: 0 };
+    let mut t = 0;
+    while t < table.len() {
+        last = slot(t, last, releases, deadlines, left, order, table);
+        t += 1;
+    }
 }
