@@ -5,3 +5,4 @@ pub mod LowestBit
 pub mod Readiness
 pub mod SlotBySlot
 pub mod Searching
+pub mod Filling

@@ -5,10 +5,13 @@ use mathlib.Core.Bool.{Bool, not}
 use mathlib.Core.List.{List, _++_}
 use lib.ListN.{length, getD, set, take}
 use lib.Dec.{eqb}
+use Rattle.sched.specs.Jobs.{Jobs, totalVolume}
+use Rattle.sched.specs.Checks.{Passes}
 use Rattle.sched.specs.Slots.{asleep, awake, awakeOf}
+use Rattle.sched.specs.Workable.{workable}
 use Rattle.edf.specs.Run.{Spans, chosen, after, slotByte, bytes, final}
 use Rattle.edf.specs.Search.{stateOf}
-use Rattle.edf.specs.Chain.{jobAt}
+use Rattle.edf.specs.Chain.{RankedJobs, jobAt}
 use Rattle.planner.specs.Mask.{maskFrom}
 use Rattle.planner.specs.Ranks.{servesRank, Outside, Ranked, ReadyAt, servedByte, servedLeft, servedBits}
 
@@ -74,3 +77,15 @@ pub record RunTo (F : Spans) (order left₀ table₀ left table : List ℕ) (t b
   pub all : bytes F (awake (awakeOf table₀)) (length table₀) 0 (stateOf left₀) ≡ take t table ++ bytes F (awake (awakeOf table₀)) (length table₀ - t) t (stateOf left)
   pub ends : final F (awake (awakeOf table₀)) (length table₀) 0 (stateOf left₀) ≡ final F (awake (awakeOf table₀)) (length table₀ - t) t (stateOf left)
   pub current : Current F order left t bits u
+
+-- an array of 64 numbers with the volumes in front, and 0 behind
+pub record Units (volumes units : List ℕ) : Type 0 where
+  pub long : length units ≡ 64
+  pub same : stateOf units ≡ stateOf volumes
+
+-- step 4 can be taken: all volume can be worked in the table's awake slots
+pub record Fillable (J : Jobs) (order table : List ℕ) : Type 0 where
+  pub passes : Passes J
+  pub ranks : RankedJobs J order
+  pub long : length table ≡ J .horizon
+  pub full : workable J (awakeOf table) ≡ totalVolume J

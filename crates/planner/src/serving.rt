@@ -1,12 +1,16 @@
 // Runs of earliest deadline first over the awake slots of a table. The order has the jobs by rank: by deadline, equal ones by number.
 ghost use mathlib.Core.Path.{_≡_};
 ghost use Prim.Native.Nat.{ℕ, _≤_, _<_};
-ghost use lib.ListN.{length, getD};
+ghost use mathlib.Core.List.{_++_};
+ghost use lib.ListN.{length, getD, drop};
+ghost use Rattle.sched.specs.Slots.{awakeOf};
+ghost use Rattle.sched.specs.Steps.{tableOf};
 ghost use Rattle.edf.specs.Run.{servable};
 ghost use Rattle.edf.specs.Search.{stateOf};
+ghost use Rattle.planner.specs.Lists.{jobsOf};
 ghost use Rattle.planner.specs.Mask.{bit};
 ghost use Rattle.planner.specs.Ranks.{spansOf, Outside, ReadyAt, Ranked, CanServe, servedByte, servedLeft, servedBits};
-ghost use Rattle.planner.specs.Runs.{Sooner, Serves, Current, SlotReady, SlotDone, Runnable, RunDone};
+ghost use Rattle.planner.specs.Runs.{Sooner, Serves, Current, SlotReady, SlotDone, Runnable, RunDone, Units, Fillable};
 
 const ASLEEP: u8 = 255;
 const IDLE: u8 = 254;
@@ -128,4 +132,34 @@ pub fn run(releases: &[u16], deadlines: &[u16], left: &mut [u16], order: &[u8], 
         last = slot(t, last, releases, deadlines, left, order, table);
         t += 1;
     }
+}
+
+fn copy(from: &[u16], to: &mut [u16])
+    requires { ⌜ length (now from) ≤ length (now to) ⌝ }
+    ensures { λ r. ⌜ now (to .exit) ≡ now (from .entry) ++ drop (length (now (from .entry))) (now (to .entry)) ⌝ }
+{
+    let mut i = 0;
+    while i < from.len() {
+        to[i] = from[i];
+        i += 1;
+    }
+}
+
+// The units of each job before slot 0.
+pub fn units(volumes: &[u16]) -> [u16; 64]
+    requires { ⌜ length (now volumes) ≤ 64 ⌝ }
+    ensures { λ r. ⌜ Units (now (volumes .entry)) r ⌝ }
+{
+    let mut left = [0u16; 64];
+    copy(volumes, &mut left);
+    left
+}
+
+// Step 4: the table of a set of awake slots in which all volume can be worked.
+pub fn fill(h: u16, q: u16, releases: &[u16], deadlines: &[u16], volumes: &[u16], order: &[u8], table: &mut [u8])
+    requires { ⌜ Fillable (jobsOf h q (now releases) (now deadlines) (now volumes)) (now order) (now table) ⌝ }
+    ensures { λ r. ⌜ now (table .exit) ≡ tableOf (jobsOf h q (now (releases .entry)) (now (deadlines .entry)) (now (volumes .entry))) (awakeOf (now (table .entry))) ⌝ }
+{
+    let mut left = units(volumes);
+    run(releases, deadlines, &mut left, order, table);
 }
