@@ -2,7 +2,6 @@
 pub mod Faults
 pub mod Verdict
 pub mod Times
-pub mod Bounds
 pub mod Stretches
 pub mod Theorems
 pub mod Cases

@@ -10,7 +10,7 @@ use lib.Seq.{length-take-le}
 use Rattle.sched.specs.Jobs.{Jobs}
 use Rattle.sched.specs.Refusals.{number}
 use Rattle.sched.specs.Slots.{awakeOf}
-use Rattle.sched.specs.Energy.{awakeSlots, runs, runsFrom, energy}
+use Rattle.sched.specs.Energy.{tableFigures, awakeSlots, runs, runsFrom, energy}
 use Rattle.sched.specs.Checks.{Passes}
 use Rattle.sched.specs.Checks.Laws.{passes}
 use Rattle.sched.specs.Feasible.{Feasible}
@@ -20,7 +20,7 @@ use Rattle.sched.specs.declared.Refusal.{Refusal}
 use Rattle.sched.specs.declared.Refusal.the-variants.{Truncated, OutOfRange, UnknownBit, Redundant, BadJob, LeftOver, TooShort, Unequal, BadByte, TooOften, OutOfSpan, TooRare}
 use Rattle.judge.specs.Faults.{tableCheck}
 use Rattle.judge.specs.Faults.Feasibility.{faultless-feasible, feasible-faultless}
-use Rattle.judge.specs.Verdict.{figuresOf, accepts, judged, judgedNumber, judgedValues}
+use Rattle.judge.specs.Verdict.{accepts, judged, judgedNumber, judgedValues}
 use Rattle.judge.specs.Verdict.Laws.{list-passed, long-judged}
 use Rattle.judge.specs.Stretches.{Stretch, Longest, stretches, Apart}
 use Rattle.judge.specs.Stretches.Laws.{as-many-as-runs, listed-longest, longest-listed, stretches-apart}
@@ -62,13 +62,13 @@ judge-is-just J table p l =
     long : length (take (J .horizon) table) ≡ J .horizon
     long = length-take-le (J .horizon) table l
 
-    judged-is : judged J table ≡ accepts (tableCheck (J .releases) (J .deadlines) (J .volumes) (take (J .horizon) table)) (figuresOf J (take (J .horizon) table))
+    judged-is : judged J table ≡ accepts (tableCheck (J .releases) (J .deadlines) (J .volumes) (take (J .horizon) table)) (tableFigures J (take (J .horizon) table))
     judged-is = sym (list-passed J table (passes J .1 p)) ∙ long-judged J table l
 
-    says : tableCheck (J .releases) (J .deadlines) (J .volumes) (take (J .horizon) table) ≡ Passed → judged J table ≡ accepts Passed (figuresOf J (take (J .horizon) table))
-    says e = judged-is ∙ ap (λ (c : Checked). accepts c (figuresOf J (take (J .horizon) table))) e
+    says : tableCheck (J .releases) (J .deadlines) (J .volumes) (take (J .horizon) table) ≡ Passed → judged J table ≡ accepts Passed (tableFigures J (take (J .horizon) table))
+    says e = judged-is ∙ ap (λ (c : Checked). accepts c (tableFigures J (take (J .horizon) table))) e
 
-    only : (c : Checked) → judgedNumber (accepts c (figuresOf J (take (J .horizon) table))) ≡ 0 → c ≡ Passed
+    only : (c : Checked) → judgedNumber (accepts c (tableFigures J (take (J .horizon) table))) ≡ 0 → c ≡ Passed
     only Passed z = refl
     only (Faulty r) z = absurd (refusal-number r z)
 

@@ -8,8 +8,7 @@ use lib.Dec.{ltb}
 use Rattle.sched.specs.Jobs.{Jobs}
 use Rattle.sched.specs.Refusals.{number, place}
 use Rattle.sched.specs.Checks.{listCheck}
-use Rattle.sched.specs.Slots.{awakeOf}
-use Rattle.sched.specs.Energy.{awakeSlots, runs, energy}
+use Rattle.sched.specs.Energy.{tableFigures}
 use Rattle.sched.specs.declared.Checked.{Checked}
 use Rattle.sched.specs.declared.Checked.the-variants.{Passed, Refused as Faulty}
 use Rattle.sched.specs.declared.Refusal.the-variants.{TooShort}
@@ -23,11 +22,6 @@ pub mod Laws
 abbrev pub lent : ℕ → ℕ → List ℕ → List ℕ → List ℕ → Jobs
 lent h q rs ds ps = record { horizon = h; wake = q; releases = rs; deadlines = ds; volumes = ps }
 
--- "energy, awake slots and runs" of a table of H bytes
-abbrev pub figuresOf : Jobs → List ℕ → Figures
-figuresOf J table =
-    record { energy = energy J (awakeOf table); awake = awakeSlots (awakeOf table); runs = runs J (awakeOf table) }
-
 -- a table without a fault is told its figures
 abbrev pub accepts : Checked → Figures → Judged
 accepts Passed f = Accepted f
@@ -39,7 +33,7 @@ judgedTable J table =
     elim (ltb (length table) (J .horizon)) [
       | true ↦ Refused (TooShort (J .horizon))
       | false ↦ accepts (tableCheck (J .releases) (J .deadlines) (J .volumes) (take (J .horizon) table))
-          (figuresOf J (take (J .horizon) table))
+          (tableFigures J (take (J .horizon) table))
     ]
 
 -- the list checks come first

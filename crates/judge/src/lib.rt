@@ -3,9 +3,8 @@ ghost use mathlib.Core.Path.{_≡_};
 ghost use Prim.Native.Nat.{_≤_};
 ghost use lib.ListN.{length, getD};
 ghost use lib.Dec.{leb};
-ghost use Rattle.sched.specs.Jobs.{Jobs};
 ghost use Rattle.judge.specs.Faults.{Sized, slotFault, rareFrom, tableCheck};
-ghost use Rattle.judge.specs.Verdict.{lent, figuresOf, judgedTable, Judges};
+ghost use Rattle.judge.specs.Verdict.{lent, judgedTable, Judges};
 use sched::Checked;
 use sched::Figures;
 use sched::Refusal;
@@ -91,36 +90,6 @@ fn check_table(releases: &[u16], deadlines: &[u16], volumes: &[u16], table: &[u8
     check_named(volumes, &named)
 }
 
-// What a table of at most 4,096 bytes costs; the processor sleeps before slot 0.
-fn figures(q: u16, table: &[u8]) -> Figures
-    requires { ⌜ length (now table) ≤ 4096 ⌝ }
-    ensures { λ f. ⌜ ((J : Jobs) → J .wake ≡ q → f ≡ figuresOf J (now (table .entry))) ⌝ }
-{
-    let mut awake: u32 = 0;
-    let mut runs: u32 = 0;
-    let mut on = false;
-    let mut t = 0;
-    while t < table.len() {
-        if table[t] == 255 {
-            on = false;
-            t += 1;
-        } else if on {
-            awake += 1;
-            t += 1;
-        } else {
-            awake += 1;
-            runs += 1;
-            on = true;
-            t += 1;
-        }
-    }
-    Figures {
-        energy: awake + (q as u32) * runs,
-        awake,
-        runs,
-    }
-}
-
 // What is left to do for a list that has passed its checks.
 fn judge_table(
     h: u16,
@@ -139,7 +108,7 @@ fn judge_table(
     }
     let slots = &table[..end];
     match check_table(releases, deadlines, volumes, slots) {
-        Checked::Passed => Judged::Accepted(figures(q, slots)),
+        Checked::Passed => Judged::Accepted(sched::cost_of(q, slots)),
         Checked::Refused(r) => Judged::Refused(r),
     }
 }

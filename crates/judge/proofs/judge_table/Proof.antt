@@ -21,14 +21,14 @@ check-table-requires c κs = search needs
 enum-told : tie.Need-enum-told
 enum-told c = search needs
 
-figures-requires : tie.Need-figures-requires
-figures-requires c κs = simp length-take (omega arith)
+cost-of-requires : tie.Need-cost-of-requires
+cost-of-requires c κs = simp length-take (omega arith)
 
 enum-known-r : tie.Need-enum-known-r
 enum-known-r c = search needs
 
 returns-2 : tie.Need-returns-2
-returns-2 c = faultless-accepted _ _ _ (c .before .before .before .before .before .if1 .left) (sym (c .before .before .before .check-table .ensures) ∙ c .before .enum-told .given .1) (c .figures .ensures (lent (c .before .before .before .before .before .before .before .before .before .before .args .h) (c .before .before .before .before .before .before .before .before .before .before .args .q) (c .before .before .before .before .before .before .before .before .before .before .args .releases .now) (c .before .before .before .before .before .before .before .before .before .before .args .deadlines .now) (c .before .before .before .before .before .before .before .before .before .before .args .volumes .now)) refl)
+returns-2 c = faultless-accepted _ _ _ (c .before .before .before .before .before .if1 .left) (sym (c .before .before .before .check-table .ensures) ∙ c .before .enum-told .given .1) (c .cost-of .ensures (lent (c .before .before .before .before .before .before .before .before .before .before .args .h) (c .before .before .before .before .before .before .before .before .before .before .args .q) (c .before .before .before .before .before .before .before .before .before .before .args .releases .now) (c .before .before .before .before .before .before .before .before .before .before .args .deadlines .now) (c .before .before .before .before .before .before .before .before .before .before .args .volumes .now)) refl)
 
 returns-3 : tie.Need-returns-3
 returns-3 c = faulty-refused _ _ _ (c .before .before .before .before .before .if1 .left) (sym (c .before .before .before .check-table .ensures) ∙ c .before .r .given .1)
@@ -41,7 +41,7 @@ judge-table-spec =
     slice-aggregate-slots
     check-table-requires
     enum-told
-    figures-requires
+    cost-of-requires
     enum-known-r
     returns-2
     returns-3)

@@ -10,12 +10,11 @@ use borrow.Author.Tests.{eq-eqb, ne-eqb}
 use lib.ListN.{length, getD, drop, drop-of-length-le, length-map}
 use lib.Seq.{drop-cons}
 use lib.Dec.{eqb}
 use Rattle.sched.specs.Jobs.{Jobs}
 use Rattle.sched.specs.Slots.{awakeOf}
-use Rattle.sched.specs.Energy.{awakeSlots, runsFrom}
+use Rattle.sched.specs.Energy.{awakeSlots, runsFrom, tableFigures}
 use Rattle.sched.specs.declared.Figures.{Figures}
-use Rattle.judge.specs.Verdict.{figuresOf}
-use Rattle.judge.specs.Bounds.{awake-at-most, runs-few}
+use Rattle.sched.specs.Energy.Laws.{awake-at-most, runs-few}
 
 next-slot : (table : List ℕ) (t : ℕ) → t < length table → awakeOf (drop t table) ≡ not (eqb (getD table t 0) 255) ∷ awakeOf (drop (t + 1) table)
 next-slot table t l = rw (add-one, drop-cons table t 0)
@@ -73,5 +72,5 @@ module _ (table : List ℕ) (awake runs : ℕ) (on : Bool) (t : ℕ) (c : Tally 
 pub cost-fits : (q runs : ℕ) → q ≤ 65535 → runs ≤ 2048 → q * runs ≤ 65535 * 2048
 cost-fits q runs a b = mul-le-mul a b
 
-pub figures-are : (J : Jobs) (table : List ℕ) (q awake runs : ℕ) → (awake ≡ awakeSlots (awakeOf table)) × (runs ≡ runsFrom false (awakeOf table)) → J .wake ≡ q → _≡_ {A = Figures} (record { energy = awake + q * runs; awake = awake; runs = runs }) (figuresOf J table)
+pub figures-are : (J : Jobs) (table : List ℕ) (q awake runs : ℕ) → (awake ≡ awakeSlots (awakeOf table)) × (runs ≡ runsFrom false (awakeOf table)) → J .wake ≡ q → _≡_ {A = Figures} (record { energy = awake + q * runs; awake = awake; runs = runs }) (tableFigures J table)
 figures-are J table q awake runs e w = rw (e .0, e .1, ← w)

@@ -1,11 +1,11 @@
--- `judge::figures` meets its contract: each turn counts one slot more, and nothing overflows since there are few slots and runs.
+-- `sched::cost_of` meets its contract: each turn counts one slot more, and nothing overflows since there are few slots and runs.
 use Prim.Native.Nat.{_-_}
 use native.Mathlib.Omega.{arith}
 use borrow.Author.Needs.{needs}
 use lib.ListN.{length}
-use Rattle.judge.proofs.Tally.{Tally, tally-start, tally-asleep, tally-goes-on, tally-begins, tally-awake-few, tally-runs-few, tally-end, cost-fits, figures-are}
-use Rattle.judge.proofs.figures.Statement.{statement}
-use Rattle.judge.proofs.figures.Tie as tie
+use Rattle.sched.proofs.Tally.{Tally, tally-start, tally-asleep, tally-goes-on, tally-begins, tally-awake-few, tally-runs-few, tally-end, cost-fits, figures-are}
+use Rattle.sched.proofs.cost_of.Statement.{statement}
+use Rattle.sched.proofs.cost_of.Tie as tie
 
 abbrev Inv-loop : tie.InvT-loop
 Inv-loop q table awake₀ runs₀ on₀ t₀ awake runs on t = Tally table awake runs on t
@@ -64,8 +64,8 @@ add-t14 c = omega (arith, cost-fits (c .before .before .args .q) (c .before .loo
 returns : tie.Need-returns Inv-loop μ-loop
 returns c = λ J w. figures-are J (c .before .before .args .table .now) (c .before .before .args .q) (c .before .loop .awake) (c .before .loop .runs) (tally-end _ _ _ _ _ (c .before .loop .inv) (c .loop-test .left)) w
 
-pub figures-spec : {M : Type 1} → statement M
-figures-spec =
+pub cost-of-spec : {M : Type 1} → statement M
+cost-of-spec =
     tie.close
     (tie.spec
     Inv-loop
