@@ -1,2 +1,5 @@
 pub mod Inserting
 pub mod Sorting
+pub mod Placing
+pub mod Sleeping
+pub mod Drawing

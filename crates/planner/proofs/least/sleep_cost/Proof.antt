@@ -1,0 +1,72 @@
+use Rattle.planner.proofs.least.sleep_cost.Statement.{statement}
+use Rattle.planner.proofs.least.sleep_cost.Tie as tie
+use Rattle.planner.proofs.least.sleep_cost.Reads as reads
+use Rattle.planner.proofs.least.sleep_cost.Lts as lts
+
+abbrev Inv-loop : tie.InvT-loop
+Inv-loop q starts values from s k₀ k = ?
+
+abbrev μ-loop : tie.MeasureT-loop
+μ-loop q starts values from s k₀ k = ?
+
+-- src/least.rt:65:5
+loop-holds : tie.Need-loop-holds Inv-loop μ-loop
+loop-holds c = ?
+
+-- src/least.rt:66:17
+mul-if1 : tie.Need-mul-if1 Inv-loop μ-loop
+mul-if1 c = ?
+
+-- src/least.rt:66:17
+shared-slice-read-if1 : tie.Need-shared-slice-read-if1 Inv-loop μ-loop
+shared-slice-read-if1 c = ?
+
+-- src/least.rt:67:31
+mul-result : tie.Need-mul-result Inv-loop μ-loop
+mul-result c = ?
+
+-- src/least.rt:67:31
+shared-slice-read-result : tie.Need-shared-slice-read-result Inv-loop μ-loop
+shared-slice-read-result c = ?
+
+-- src/least.rt:67:20
+add-result : tie.Need-add-result Inv-loop μ-loop
+add-result c = ?
+
+-- src/least.rt:67:13
+returns : tie.Need-returns Inv-loop μ-loop
+returns c = ?
+
+-- src/least.rt:69:9
+add-k : tie.Need-add-k Inv-loop μ-loop
+add-k c = ?
+
+-- src/least.rt:65:5
+loop-less : tie.Need-loop-less Inv-loop μ-loop
+loop-less c = ?
+
+-- src/least.rt:65:5
+loop-again : tie.Need-loop-again Inv-loop μ-loop
+loop-again c = ?
+
+-- src/least.rt:60:1
+returns-2 : tie.Need-returns-2 Inv-loop μ-loop
+returns-2 c = ?
+
+pub sleep-cost-spec : {M : Type 1} → statement M
+sleep-cost-spec =
+    tie.close
+    (tie.spec
+    Inv-loop
+    μ-loop
+    loop-holds
+    mul-if1
+    shared-slice-read-if1
+    mul-result
+    shared-slice-read-result
+    add-result
+    returns
+    add-k
+    loop-less
+    loop-again
+    returns-2)
