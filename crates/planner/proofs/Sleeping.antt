@@ -9,12 +9,13 @@ use native.Mathlib.Omega.{arith}
 use lib.ListN.{length, getD, drop, set, length-set, length-map, drop-of-length-le}
 use lib.Seq.{drop-cons, getD-set-same, getD-set-other}
 use lib.Dec.{leb, ltb, eqb}
+use borrow.Author.Tests.{lt-ltb, le-ltb, le-leb, lt-leb, eq-eqb, ne-eqb}
 use Rattle.sched.specs.Bounded.Laws.{by-bool}
 use Rattle.sched.specs.Jobs.{Jobs}
 use Rattle.skeleton.specs.Windows.{windowStart}
 use Rattle.skeleton.specs.Runs.{sleepCost, throughCost, takes, runEnd}
 use Rattle.skeleton.specs.Runs.Clauses.{sleep-none, sleep-wakes, sleep-skips, run-end-none, run-end-takes, run-end-keeps}
-use Rattle.planner.specs.Least.{chosen, SleepFrom, Rests, EndFrom}
+use Rattle.planner.specs.Least.{chosen, wins, SleepFrom, Rests, EndFrom}
 
 pub map-at : (f : ℕ → ℕ) (l : List ℕ) (k : ℕ) → k < length l → getD (map f l) k 0 ≡ f (getD l k 0)
 map-at f [] k l = absurd (omega arith)
@@ -64,9 +65,27 @@ module _ (q : ℕ) (starts numbers : List ℕ) (from s k : ℕ) (same : length n
 
 -- the end of a run
 
--- an end c at the cost `paid` against the best so far
-abbrev pub wins : ℕ → ℕ → ℕ → ℕ → ℕ → Bool
-wins low c paid end through = leb low c && (ltb paid through || eqb paid through && ltb c end)
+module _ (low c paid end through : ℕ) where
+  pub loses-too-early : c < low → wins low c paid end through ≡ false
+  loses-too-early l = simp (lt-leb low c l)
+
+  pub loses-dearer : low ≤ c → through < paid → wins low c paid end through ≡ false
+  loses-dearer l m = simp (le-leb low c l, le-ltb paid through (omega arith), ne-eqb paid through (λ e. omega arith))
+
+  pub loses-later : low ≤ c → paid ≡ through → end ≤ c → wins low c paid end through ≡ false
+  loses-later l e m = simp (le-leb low c l, le-ltb paid through (omega arith), eq-eqb paid through e, le-ltb c end m)
+
+  pub wins-earlier : low ≤ c → paid ≡ through → c < end → wins low c paid end through ≡ true
+  wins-earlier l e m = simp (le-leb low c l, le-ltb paid through (omega arith), eq-eqb paid through e, lt-ltb c end m)
+
+  pub wins-cheaper : low ≤ c → paid < through → wins low c paid end through ≡ true
+  wins-cheaper l m = simp (le-leb low c l, lt-ltb paid through m)
+
+  pub keeps : wins low c paid end through ≡ false → (end ≡ chosen (wins low c paid end through) c end) × (through ≡ chosen (wins low c paid end through) paid through)
+  keeps e = (ap (λ (b : Bool). chosen b c end) (sym e), ap (λ (b : Bool). chosen b paid through) (sym e))
+
+  pub gives-way : wins low c paid end through ≡ true → (c ≡ chosen (wins low c paid end through) c end) × (paid ≡ chosen (wins low c paid end through) paid through)
+  gives-way e = (ap (λ (b : Bool). chosen b c end) (sym e), ap (λ (b : Bool). chosen b paid through) (sym e))
 
 module _ (J : Jobs) (js vs : List ℕ) (low end through c paid end′ through′ k : ℕ) (ks : List ℕ)
     (at : c ≡ suc (windowStart J k)) (here : paid ≡ throughCost J js vs c) (best : through ≡ throughCost J js vs end)

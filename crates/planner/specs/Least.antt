@@ -2,9 +2,10 @@
 -- each promise holds for every list whose windows these are.
 use Prim.Native.Nat.{ℕ, suc, _+_, _*_, _≤_, _<_}
 use mathlib.Core.Path.{_≡_}
-use mathlib.Core.Bool.{Bool, true, false}
+use mathlib.Core.Bool.{Bool, true, false, _&&_, _||_}
 use mathlib.Core.List.{List, map}
 use lib.ListN.{length, getD, drop}
+use lib.Dec.{leb, ltb, eqb}
 use Rattle.sched.specs.Jobs.{Jobs, count}
 use Rattle.sched.specs.Checks.{Passes}
 use Rattle.sched.specs.Slots.{awakeOf}
@@ -16,6 +17,10 @@ use Rattle.skeleton.specs.Runs.{sleepCost, throughCost, runEnd, endAfter, value
 abbrev pub chosen : Bool → ℕ → ℕ → ℕ
 chosen true a b = a
 chosen false a b = b
+
+-- a run that ends before c and costs `paid` against one that ends before `end` and costs `through`; none may end before `low`
+abbrev pub wins : ℕ → ℕ → ℕ → ℕ → ℕ → Bool
+wins low c paid end through = leb low c && (ltb paid through || eqb paid through && ltb c end)
 
 -- what 64 jobs of the greatest horizon and wake cost can cost, and one wake more
 abbrev pub largest : ℕ

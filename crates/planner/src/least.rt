@@ -1,17 +1,17 @@
 // Step 2: the least skeleton, from one number a job. A place is a position in the order of the jobs by the ends of their windows.
 use super::order;
 ghost use mathlib.Core.Path.{_≡_};
-ghost use mathlib.Core.Bool.{true, false, _&&_, _||_};
+ghost use mathlib.Core.Bool.{true, false};
 ghost use mathlib.Core.List.{List, _++_, map};
 ghost use Prim.Native.Nat.{ℕ, _+_, _-_, _≤_, _<_, min};
 ghost use lib.ListN.{length, getD, take, replicate};
-ghost use lib.Dec.{leb, ltb, eqb};
+ghost use lib.Dec.{ltb};
 ghost use Rattle.sched.specs.Jobs.{Jobs};
 ghost use Rattle.sched.specs.Checks.{Passes};
 ghost use Rattle.sched.specs.Slots.{awakeOf};
 ghost use Rattle.sched.specs.Skeleton.{leastSkeleton};
 ghost use Rattle.planner.specs.Lists.{jobsOf};
-ghost use Rattle.planner.specs.Least.{chosen, largest, Small, Placeable, SleepFrom, EndFrom, Windows, Priceable, Step, Fresh, Untils, Drawable, Drawn, Markable, Marked};
+ghost use Rattle.planner.specs.Least.{chosen, wins, largest, Small, Placeable, SleepFrom, EndFrom, Windows, Priceable, Step, Fresh, Untils, Drawable, Drawn, Markable, Marked};
 
 const AWAKE: u8 = 254;
 const ASLEEP: u8 = 255;
@@ -79,7 +79,7 @@ struct Ending {
 
 // The cheaper of two ends, the earlier where they cost the same; a run cannot end before `low`.
 fn better(best: Ending, low: u16, end: u16, through: u32) -> Ending
-    ensures { λ r. ⌜ (r .end ≡ chosen (leb low end && (ltb through (best .through) || eqb through (best .through) && ltb end (best .end))) end (best .end)) × (r .through ≡ chosen (leb low end && (ltb through (best .through) || eqb through (best .through) && ltb end (best .end))) through (best .through)) ⌝ }
+    ensures { λ r. ⌜ (r .end ≡ chosen (wins low end through (best .end) (best .through)) end (best .end)) × (r .through ≡ chosen (wins low end through (best .end) (best .through)) through (best .through)) ⌝ }
 {
     if end < low {
         return best;
