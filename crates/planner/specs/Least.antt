@@ -28,7 +28,7 @@ largest = 65535 + 64 * (4096 + 65535)
 
 -- no number from place `from` on is above `most`
 abbrev pub Small : ℕ → ℕ → List ℕ → Type 0
-Small most from l = (k : ℕ) → from ≤ k → getD l k 0 ≤ most
+Small most from l = (k : ℕ) → from ≤ k → k < length l → getD l k 0 ≤ most
 
 pub record Placeable (releases keys order starts ends : List ℕ) : Type 0 where
   pub known : (k : ℕ) → k < length order → getD order k 0 < length releases

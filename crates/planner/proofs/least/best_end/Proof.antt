@@ -29,11 +29,11 @@ shared-slice-read-end c = search needs
 
 -- src/least.rt:106:19
 add-end : tie.Need-add-end Inv-loop μ-loop
-add-end c = omega (arith, c .before .before .before .before .before .pre .2 (c .before .before .loop .k) (c .before .before .loop .inv .0))
+add-end c = omega (arith, c .before .before .before .before .before .pre .2 (c .before .before .loop .k) (c .before .before .loop .inv .0) (c .before .loop-test .taken))
 
 -- src/least.rt:107:39
 cast-better : tie.Need-cast-better Inv-loop μ-loop
-cast-better c = omega (arith, c .before .before .before .before .before .pre .2 (c .before .before .loop .k) (c .before .before .loop .inv .0))
+cast-better c = omega (arith, c .before .before .before .before .before .pre .2 (c .before .before .loop .k) (c .before .before .loop .inv .0) (c .before .loop-test .taken))
 
 -- src/least.rt:107:52
 mul-better : tie.Need-mul-better Inv-loop μ-loop
@@ -45,7 +45,7 @@ shared-slice-read-better c = search needs
 
 -- src/least.rt:107:39
 add-better : tie.Need-add-better Inv-loop μ-loop
-add-better c = omega (arith, c .before .before .before .before .before .before .pre .2 (c .before .before .before .loop .k) (c .before .before .before .loop .inv .0), c .before .before .before .before .before .before .pre .1 (c .before .before .before .loop .k) (c .before .before .before .loop .inv .0))
+add-better c = omega (arith, c .before .before .before .before .before .before .pre .2 (c .before .before .before .loop .k) (c .before .before .before .loop .inv .0) (c .before .before .loop-test .taken), c .before .before .before .before .before .before .pre .1 (c .before .before .before .loop .k) (c .before .before .before .loop .inv .0) (search needs))
 
 -- src/least.rt:107:9
 better-requires : tie.Need-better-requires Inv-loop μ-loop

@@ -36,7 +36,7 @@ shared-slice-read-result c = search needs
 
 -- src/least.rt:67:20
 add-result : tie.Need-add-result Inv-loop μ-loop
-add-result c = omega (arith, c .before .before .before .before .before .pre .1 (c .before .before .before .before .loop .k) (c .before .before .before .before .loop .inv .0))
+add-result c = omega (arith, c .before .before .before .before .before .pre .1 (c .before .before .before .before .loop .k) (c .before .before .before .before .loop .inv .0) (search needs))
 
 -- src/least.rt:67:13
 returns : tie.Need-returns Inv-loop μ-loop

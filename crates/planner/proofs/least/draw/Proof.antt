@@ -1,0 +1,119 @@
+use Rattle.planner.proofs.least.draw.Statement.{statement}
+use Rattle.planner.proofs.least.draw.Tie as tie
+use Rattle.planner.proofs.least.draw.Reads as reads
+use Rattle.planner.proofs.least.draw.Lts as lts
+use Rattle.planner.proofs.least.draw_run.Reads as draw-run-reads
+use Rattle.planner.proofs.least.fill.Reads as fill-reads
+
+abbrev Inv-loop : tie.InvT-loop
+Inv-loop starts ends untils table₀ s₀ i₀ table s i = ?
+
+abbrev μ-loop : tie.MeasureT-loop
+μ-loop starts ends untils table₀ s₀ i₀ table s i = ?
+
+-- src/least.rt:185:5
+loop-holds : tie.Need-loop-holds Inv-loop μ-loop
+loop-holds c = ?
+
+-- src/least.rt:186:13
+mul-if1 : tie.Need-mul-if1 Inv-loop μ-loop
+mul-if1 c = ?
+
+-- src/least.rt:186:13
+shared-slice-read-if1 : tie.Need-shared-slice-read-if1 Inv-loop μ-loop
+shared-slice-read-if1 c = ?
+
+-- src/least.rt:186:13
+cast-if1 : tie.Need-cast-if1 Inv-loop μ-loop
+cast-if1 c = ?
+
+-- src/least.rt:187:13
+add-i : tie.Need-add-i Inv-loop μ-loop
+add-i c = ?
+
+-- src/least.rt:185:5
+loop-less : tie.Need-loop-less Inv-loop μ-loop
+loop-less c = ?
+
+-- src/least.rt:185:5
+loop-again : tie.Need-loop-again Inv-loop μ-loop
+loop-again c = ?
+
+-- src/least.rt:190:19
+mul-end : tie.Need-mul-end Inv-loop μ-loop
+mul-end c = ?
+
+-- src/least.rt:190:19
+shared-slice-read-end : tie.Need-shared-slice-read-end Inv-loop μ-loop
+shared-slice-read-end c = ?
+
+-- src/least.rt:190:19
+cast-end : tie.Need-cast-end Inv-loop μ-loop
+cast-end c = ?
+
+-- src/least.rt:191:28
+mul-draw-run : tie.Need-mul-draw-run Inv-loop μ-loop
+mul-draw-run c = ?
+
+-- src/least.rt:191:28
+shared-slice-read-draw-run : tie.Need-shared-slice-read-draw-run Inv-loop μ-loop
+shared-slice-read-draw-run c = ?
+
+-- src/least.rt:191:28
+cast-draw-run : tie.Need-cast-draw-run Inv-loop μ-loop
+cast-draw-run c = ?
+
+-- src/least.rt:191:9
+draw-run-requires : tie.Need-draw-run-requires Inv-loop μ-loop
+draw-run-requires c κs = ?
+
+-- src/least.rt:193:9
+add-i-2 : tie.Need-add-i-2 Inv-loop μ-loop
+add-i-2 c = ?
+
+-- src/least.rt:185:5
+loop-less-2 : tie.Need-loop-less-2 Inv-loop μ-loop
+loop-less-2 c = ?
+
+-- src/least.rt:185:5
+loop-again-2 : tie.Need-loop-again-2 Inv-loop μ-loop
+loop-again-2 c = ?
+
+-- src/least.rt:196:5
+fill-requires : tie.Need-fill-requires Inv-loop μ-loop
+fill-requires c κs = ?
+
+-- src/least.rt:179:1
+same-length : tie.Need-same-length Inv-loop μ-loop
+same-length c = ?
+
+-- src/least.rt:179:1
+returns : tie.Need-returns Inv-loop μ-loop
+returns c = ?
+
+pub draw-spec : {M : Type 1} → statement M
+draw-spec =
+    tie.close
+    (tie.spec
+    Inv-loop
+    μ-loop
+    loop-holds
+    mul-if1
+    shared-slice-read-if1
+    cast-if1
+    add-i
+    loop-less
+    loop-again
+    mul-end
+    shared-slice-read-end
+    cast-end
+    mul-draw-run
+    shared-slice-read-draw-run
+    cast-draw-run
+    draw-run-requires
+    add-i-2
+    loop-less-2
+    loop-again-2
+    fill-requires
+    same-length
+    returns)
