@@ -1,6 +1,6 @@
 -- The pass from the last place to the first: one place more, and how large its numbers are.
 use Prim.Native.Nat.{ℕ, zero, suc, _+_, _-_, _*_, _≤_, _<_}
-use mathlib.Core.Path.{_≡_, refl, sym, ap, _∙_}
+use mathlib.Core.Path.{_≡_, refl, sym, ap, _∙_, subst}
 use mathlib.Core.Bool.{Bool, true, false}
 use mathlib.Core.List.{List, [], _∷_, map, List·Memᴰ as Among}
 use native.Mathlib.Nat.{mul-le-mul-right}
@@ -183,3 +183,60 @@ module _ (q : ℕ) (starts ends numbers rests untils : List ℕ) (i : ℕ) (room
           → Step q starts ends numbers rests untils (set numbers i (paid - getD ends i 0)) rests′ (set untils i end) i
       priced-step rests′ waked J order w wake d =
           priced-more q starts ends numbers rests untils i asleep end paid s b J order w wake (p .within) d rests′ (p .numbers-many) (p .untils-many) waked
+
+-- the loop over the places
+pub record Passing (q : ℕ) (starts ends numbers rests untils : List ℕ) (i : ℕ) : Type 0 where
+  pub within : i ≤ length starts
+  pub numbers-many : length numbers ≡ length starts
+  pub rests-many : length rests ≡ length starts
+  pub untils-many : length untils ≡ length starts
+  pub done : (J : Jobs) (order : List ℕ) → Windows starts ends J order → J .wake ≡ q → Priced starts numbers rests untils J order i
+
+module _ (q : ℕ) (starts ends : List ℕ) where
+  pub passing-start : (numbers rests untils : List ℕ) → Fresh q starts ends numbers rests untils → Passing q starts ends numbers rests untils (length starts)
+  passing-start numbers rests untils f = record {
+    within = omega arith;
+    numbers-many = f .numbers-many;
+    rests-many = f .rests-many;
+    untils-many = f .untils-many;
+    done = λ J order w wake. go J order (drop-of-length-le order {i = length starts} (omega (arith, starts-many J order starts (w .firsts)))) (starts-many J order starts (w .firsts));
+  }
+    where
+      go : (J : Jobs) (order : List ℕ) → drop (length starts) order ≡ [] → length starts ≡ length order → Priced starts numbers rests untils J order (length starts)
+      go J order e n = record {
+        behind = drop-of-length-le numbers {i = length starts} (omega (arith, f .numbers-many)) ∙ sym (ap (values J) e ∙ values-none J);
+        asleep = λ k a b. f .zeros k ∙ sym (ap (λ (js : List ℕ). sleepCost J (suc (getD starts k 0)) js (values J (drop (length starts) order))) e ∙ sleep-none J (suc (getD starts k 0)) (values J (drop (length starts) order)));
+        until = λ k a b. absurd (omega arith);
+      }
+
+  pub passing-next : (numbers₀ rests₀ untils₀ numbers rests untils : List ℕ) (i : ℕ) → 0 < i → Fresh q starts ends numbers₀ rests₀ untils₀ → Passing q starts ends numbers rests untils i → Priceable q starts ends numbers rests untils (i - 1)
+  passing-next numbers₀ rests₀ untils₀ numbers rests untils i l f p =
+      let up : i ≡ suc (i - 1) = omega arith in
+      record {
+        J = f .J;
+        order = f .order;
+        wake = f .wake;
+        windows = f .windows;
+        numbers-many = p .numbers-many;
+        rests-many = p .rests-many;
+        untils-many = p .untils-many;
+        within = omega (arith, p .within);
+        done = subst (λ (n : ℕ). Priced starts numbers rests untils (f .J) (f .order) n) up (p .done (f .J) (f .order) (f .windows) (f .wake));
+      }
+
+  pub passing-turn : (numbers rests untils numbers′ rests′ untils′ : List ℕ) (i : ℕ) → 0 < i
+      → length numbers′ ≡ length numbers → length rests′ ≡ length rests → length untils′ ≡ length untils
+      → Step q starts ends numbers rests untils numbers′ rests′ untils′ (i - 1) → Passing q starts ends numbers rests untils i → Passing q starts ends numbers′ rests′ untils′ (i - 1)
+  passing-turn numbers rests untils numbers′ rests′ untils′ i l a b c s p =
+      let up : i ≡ suc (i - 1) = omega arith in
+      record {
+        within = omega (arith, p .within);
+        numbers-many = a ∙ p .numbers-many;
+        rests-many = b ∙ p .rests-many;
+        untils-many = c ∙ p .untils-many;
+        done = λ J order w wake. s J order w wake (subst (λ (n : ℕ). Priced starts numbers rests untils J order n) up (p .done J order w wake));
+      }
+
+  pub passing-end : (numbers rests untils : List ℕ) (i : ℕ) → i ≤ 0 → Passing q starts ends numbers rests untils i → (J : Jobs) (order : List ℕ) → Windows starts ends J order → J .wake ≡ q → Untils J order untils 0
+  passing-end numbers rests untils i l p J order w wake =
+      λ k a b. p .done J order w wake .until k (omega arith) b
