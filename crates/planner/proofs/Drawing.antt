@@ -83,11 +83,11 @@ spread-to h t e u rs l =
     let m : e + (u - e) ≡ u = omega arith in
     ap (λ (n : ℕ). replicate (e - t) false ++ (replicate (u - e) true ++ spread h n rs)) m
 
-module _ (starts ends untils table₀ : List ℕ) where
+module _ {starts ends untils table₀ : List ℕ} where
   pub drawing-start : Drawing starts ends untils table₀ table₀ 0 0
   drawing-start = record { within = omega arith; room = omega arith; kept = refl; done = λ J order w u h. refl }
 
-  module _ (table : List ℕ) (s i : ℕ) (l : i < length starts) (d : Drawing starts ends untils table₀ table s i) where
+  module _ {table : List ℕ} {s i : ℕ} (l : i < length starts) (d : Drawing starts ends untils table₀ table s i) where
     -- the next job and the others
     next : (J : Jobs) (order : List ℕ) → Windows starts ends J order
         → runsOf J s (drop i order) (values J (drop i order)) ≡ runsOf J s (getD order i 0 ∷ drop (suc i) order) (valueAt J (windowEnd J (getD order i 0)) (drop (suc i) order) (values J (drop (suc i) order)) ∷ values J (drop (suc i) order))
@@ -148,10 +148,10 @@ module _ (starts ends untils table₀ : List ℕ) where
                 ∙ ap (λ (n : ℕ). awakeOf (take s table) ++ (replicate (last - s) false ++ replicate (n - last) true)) isEnd))
               ∙ ap (λ (n : ℕ). awakeOf (take (getD untils i 0) table′) ++ spread (J .horizon) n (runsOf J n js vs)) (sym isEnd)
 
-  pub drawing-end : (table table′ : List ℕ) (s i : ℕ) → length starts ≤ i → length table′ ≡ length table
+  pub drawing-end : {table : List ℕ} (table′ : List ℕ) {s i : ℕ} → length starts ≤ i → length table′ ≡ length table
       → take (length table) table′ ≡ take s table ++ replicate (length table - s) asleep
       → Drawing starts ends untils table₀ table s i → Drawn starts ends untils table′
-  drawing-end table table′ s i l same a d J order w u h =
+  drawing-end {table} table′ {s} {i} l same a d J order w u h =
       let long : length table ≡ J .horizon = sym same ∙ h in
       ap awakeOf (sym (take-all (length table) table′ (omega arith)) ∙ a)
       ∙ map-append (λ byte. not (eqb byte asleep)) (take s table) (replicate (length table - s) asleep)

@@ -31,7 +31,7 @@ blank-at (suc m) (suc n) zero = refl
 blank-at (suc m) (suc n) (suc k) = blank-at m n k
 
 -- from the windows to the table
-module _ (q : ℕ) (starts ends table : List ℕ) (p : Markable q starts ends table) where
+module _ {q : ℕ} {starts ends table : List ℕ} (p : Markable q starts ends table) where
   pub starts-few : length starts ≤ 64
   starts-few = omega (arith, starts-many (p .J) (p .order) starts (p .windows .firsts), p .windows .many, p .windows .passes .few)
 

@@ -116,7 +116,7 @@ module _ (q : ℕ) (starts ends numbers rests untils : List ℕ) (i asleep end p
 
 -- how large the numbers are
 
-module _ (q : ℕ) (starts ends numbers rests untils : List ℕ) (i : ℕ) (room : q ≤ 65535) (p : Priceable q starts ends numbers rests untils i) where
+module _ {q : ℕ} {starts ends numbers rests untils : List ℕ} {i : ℕ} (p : Priceable q starts ends numbers rests untils i) (room : q ≤ 65535) where
   bounded : (n : ℕ) → n ≤ length (p .order) → p .J .wake + most (p .J) n ≤ largest
   bounded n m =
       let few = p .windows .passes .few in
@@ -192,9 +192,9 @@ pub record Passing (q : ℕ) (starts ends numbers rests untils : List ℕ) (i : 
   pub untils-many : length untils ≡ length starts
   pub done : (J : Jobs) (order : List ℕ) → Windows starts ends J order → J .wake ≡ q → Priced starts numbers rests untils J order i
 
-module _ (q : ℕ) (starts ends : List ℕ) where
-  pub passing-start : (numbers rests untils : List ℕ) → Fresh q starts ends numbers rests untils → Passing q starts ends numbers rests untils (length starts)
-  passing-start numbers rests untils f = record {
+module _ {q : ℕ} {starts ends : List ℕ} where
+  pub passing-start : {numbers rests untils : List ℕ} → Fresh q starts ends numbers rests untils → Passing q starts ends numbers rests untils (length starts)
+  passing-start {numbers} {rests} {untils} f = record {
     within = omega arith;
     numbers-many = f .numbers-many;
     rests-many = f .rests-many;
@@ -209,8 +209,8 @@ module _ (q : ℕ) (starts ends : List ℕ) where
         until = λ k a b. absurd (omega arith);
       }
 
-  pub passing-next : (numbers₀ rests₀ untils₀ numbers rests untils : List ℕ) (i : ℕ) → 0 < i → Fresh q starts ends numbers₀ rests₀ untils₀ → Passing q starts ends numbers rests untils i → Priceable q starts ends numbers rests untils (i - 1)
-  passing-next numbers₀ rests₀ untils₀ numbers rests untils i l f p =
+  pub passing-next : {numbers₀ rests₀ untils₀ numbers rests untils : List ℕ} {i : ℕ} → 0 < i → Fresh q starts ends numbers₀ rests₀ untils₀ → Passing q starts ends numbers rests untils i → Priceable q starts ends numbers rests untils (i - 1)
+  passing-next {numbers = numbers} {rests} {untils} {i} l f p =
       let up : i ≡ suc (i - 1) = omega arith in
       record {
         J = f .J;
@@ -224,10 +224,10 @@ module _ (q : ℕ) (starts ends : List ℕ) where
         done = subst (λ (n : ℕ). Priced starts numbers rests untils (f .J) (f .order) n) up (p .done (f .J) (f .order) (f .windows) (f .wake));
       }
 
-  pub passing-turn : (numbers rests untils numbers′ rests′ untils′ : List ℕ) (i : ℕ) → 0 < i
+  pub passing-turn : {numbers rests untils : List ℕ} (numbers′ rests′ untils′ : List ℕ) {i : ℕ} → 0 < i
       → length numbers′ ≡ length numbers → length rests′ ≡ length rests → length untils′ ≡ length untils
       → Step q starts ends numbers rests untils numbers′ rests′ untils′ (i - 1) → Passing q starts ends numbers rests untils i → Passing q starts ends numbers′ rests′ untils′ (i - 1)
-  passing-turn numbers rests untils numbers′ rests′ untils′ i l a b c s p =
+  passing-turn {numbers} {rests} {untils} numbers′ rests′ untils′ {i} l a b c s p =
       let up : i ≡ suc (i - 1) = omega arith in
       record {
         within = omega (arith, p .within);
@@ -237,6 +237,6 @@ module _ (q : ℕ) (starts ends : List ℕ) where
         done = λ J order w wake. s J order w wake (subst (λ (n : ℕ). Priced starts numbers rests untils J order n) up (p .done J order w wake));
       }
 
-  pub passing-end : (numbers rests untils : List ℕ) (i : ℕ) → i ≤ 0 → Passing q starts ends numbers rests untils i → (J : Jobs) (order : List ℕ) → Windows starts ends J order → J .wake ≡ q → Untils J order untils 0
-  passing-end numbers rests untils i l p J order w wake =
+  pub passing-end : {numbers rests untils : List ℕ} {i : ℕ} → i ≤ 0 → Passing q starts ends numbers rests untils i → (J : Jobs) (order : List ℕ) → Windows starts ends J order → J .wake ≡ q → Untils J order untils 0
+  passing-end l p J order w wake =
       λ k a b. p .done J order w wake .until k (omega arith) b

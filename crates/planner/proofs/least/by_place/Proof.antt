@@ -1,14 +1,11 @@
+use Prim.Native.Nat.{_-_}
 use mathlib.Core.Path.{refl}
-use borrow.Author.Needs.{needs}
-use Prim.Native.Nat.{_+_, _-_, _≤_, _<_, min}
-use lib.ListN.{length, getD}
 use native.Mathlib.Omega.{arith}
-use Rattle.planner.proofs.Placing.{Filled, filled-start, filled-turn, filled-end}
+use borrow.Author.Needs.{needs}
+use lib.ListN.{length, getD}
+use Rattle.planner.proofs.Placing.{Filled, filled-turn, filled-end}
 use Rattle.planner.proofs.least.by_place.Statement.{statement}
 use Rattle.planner.proofs.least.by_place.Tie as tie
-use Rattle.planner.proofs.least.by_place.Reads as reads
-use Rattle.planner.proofs.least.by_place.Lts as lts
-use Rattle.planner.proofs.least.first_of.Reads as first-of-reads
 
 abbrev Inv-loop : tie.InvT-loop
 Inv-loop releases keys order starts₀ ends₀ k₀ starts ends k = Filled (λ i. getD releases i 0 - 1) order starts₀ starts k × Filled (λ i. getD keys i 0) order ends₀ ends k
@@ -16,75 +13,57 @@ Inv-loop releases keys order starts₀ ends₀ k₀ starts ends k = Filled (λ i
 abbrev μ-loop : tie.MeasureT-loop
 μ-loop releases keys order starts₀ ends₀ k₀ starts ends k = length order - k
 
--- src/least.rt:51:5
 loop-holds : tie.Need-loop-holds Inv-loop μ-loop
 loop-holds c = search needs
 
--- src/least.rt:52:19
 shared-slice-read-job : tie.Need-shared-slice-read-job Inv-loop μ-loop
 shared-slice-read-job c = search needs
 
--- src/least.rt:52:19
 cast-job : tie.Need-cast-job Inv-loop μ-loop
 cast-job c = omega (arith, c .shared-slice-known4 .given (c .before .before .loop .k))
 
--- src/least.rt:53:30
 mul-first-of : tie.Need-mul-first-of Inv-loop μ-loop
 mul-first-of c = search (needs, c .before .before .before .before .before .before .before .before .pre .known (c .before .before .loop .k) (c .before .loop-test .taken))
 
--- src/least.rt:53:30
 shared-slice-read-first-of : tie.Need-shared-slice-read-first-of Inv-loop μ-loop
 shared-slice-read-first-of c = c .before .before .before .before .before .before .before .before .before .pre .known (c .before .before .before .loop .k) (c .before .before .loop-test .taken)
 
--- src/least.rt:53:21
 first-of-requires : tie.Need-first-of-requires Inv-loop μ-loop
 first-of-requires c κs = search needs
 
--- src/least.rt:53:9
 mul-starts : tie.Need-mul-starts Inv-loop μ-loop
 mul-starts c = search needs
 
--- src/least.rt:53:9
 slice-write-starts : tie.Need-slice-write-starts Inv-loop μ-loop
 slice-write-starts c = search needs
 
--- src/least.rt:54:19
 mul-ends : tie.Need-mul-ends Inv-loop μ-loop
 mul-ends c = search (needs, c .before .before .before .before .before .before .before .before .before .before .pre .known (c .before .before .before .before .loop .k) (c .before .before .before .loop-test .taken))
 
--- src/least.rt:54:19
 shared-slice-read-ends : tie.Need-shared-slice-read-ends Inv-loop μ-loop
 shared-slice-read-ends c = omega (arith, c .before .before .before .before .before .before .before .before .before .before .before .pre .known (c .before .before .before .before .before .loop .k) (c .before .before .before .before .loop-test .taken), c .before .before .before .before .before .before .before .before .before .before .before .pre .keys-many)
 
--- src/least.rt:54:9
 mul-ends-2 : tie.Need-mul-ends-2 Inv-loop μ-loop
 mul-ends-2 c = search needs
 
--- src/least.rt:54:9
 slice-write-ends : tie.Need-slice-write-ends Inv-loop μ-loop
 slice-write-ends c = search needs
 
--- src/least.rt:55:9
 add-k : tie.Need-add-k Inv-loop μ-loop
 add-k c = search needs
 
--- src/least.rt:51:5
 loop-less : tie.Need-loop-less Inv-loop μ-loop
 loop-less c = search needs
 
--- src/least.rt:51:5
 loop-again : tie.Need-loop-again Inv-loop μ-loop
 loop-again c = (filled-turn _ _ _ _ _ _ (c .before .before .before .before .loop-test .taken) (c .before .first-of .ensures) (c .before .before .before .before .before .loop .inv .0), filled-turn _ _ _ _ _ _ (c .before .before .before .before .loop-test .taken) refl (c .before .before .before .before .before .loop .inv .1))
 
--- src/least.rt:46:1
 same-length : tie.Need-same-length Inv-loop μ-loop
 same-length c = search needs
 
--- src/least.rt:46:1
 same-length-2 : tie.Need-same-length-2 Inv-loop μ-loop
 same-length-2 c = search needs
 
--- src/least.rt:46:1
 returns : tie.Need-returns Inv-loop μ-loop
 returns c = (filled-end _ _ _ _ _ (c .loop-test .left) (c .before .loop .inv .0), filled-end _ _ _ _ _ (c .loop-test .left) (c .before .loop .inv .1))
 

@@ -1,15 +1,11 @@
+use Prim.Native.Nat.{_-_}
+use native.Mathlib.Omega.{arith}
+use borrow.Author.Needs.{needs}
+use lib.ListN.{length}
 use Rattle.planner.proofs.Pricing.{ends-many}
 use Rattle.planner.proofs.Drawing.{Drawing, drawing-start, drawing-met, run-fits, drawing-run, drawing-end}
-use native.Mathlib.Omega.{arith}
-use lib.ListN.{length, getD}
-use Prim.Native.Nat.{_-_}
-use borrow.Author.Needs.{needs}
 use Rattle.planner.proofs.least.draw.Statement.{statement}
 use Rattle.planner.proofs.least.draw.Tie as tie
-use Rattle.planner.proofs.least.draw.Reads as reads
-use Rattle.planner.proofs.least.draw.Lts as lts
-use Rattle.planner.proofs.least.draw_run.Reads as draw-run-reads
-use Rattle.planner.proofs.least.fill.Reads as fill-reads
 
 abbrev Inv-loop : tie.InvT-loop
 Inv-loop starts ends untils table₀ s₀ i₀ table s i = Drawing starts ends untils table₀ table s i
@@ -17,85 +13,65 @@ Inv-loop starts ends untils table₀ s₀ i₀ table s i = Drawing starts ends u
 abbrev μ-loop : tie.MeasureT-loop
 μ-loop starts ends untils table₀ s₀ i₀ table s i = length starts - i
 
--- src/least.rt:185:5
 loop-holds : tie.Need-loop-holds Inv-loop μ-loop
-loop-holds c = drawing-start (c .before .before .before .before .args .starts .now) (c .before .before .before .before .args .ends .now) (c .before .before .before .before .args .untils .now) (c .before .before .before .before .args .table .now)
+loop-holds c = drawing-start
 
--- src/least.rt:186:13
 mul-if1 : tie.Need-mul-if1 Inv-loop μ-loop
 mul-if1 c = search needs
 
--- src/least.rt:186:13
 shared-slice-read-if1 : tie.Need-shared-slice-read-if1 Inv-loop μ-loop
 shared-slice-read-if1 c = search needs
 
--- src/least.rt:186:13
 cast-if1 : tie.Need-cast-if1 Inv-loop μ-loop
 cast-if1 c = omega (arith, c .shared-slice-known4 .given (c .before .before .loop .i))
 
--- src/least.rt:187:13
 add-i : tie.Need-add-i Inv-loop μ-loop
 add-i c = search needs
 
--- src/least.rt:185:5
 loop-less : tie.Need-loop-less Inv-loop μ-loop
 loop-less c = search needs
 
--- src/least.rt:185:5
 loop-again : tie.Need-loop-again Inv-loop μ-loop
-loop-again c = drawing-met (c .before .before .before .before .before .before .before .before .args .starts .now) (c .before .before .before .before .before .before .before .before .args .ends .now) (c .before .before .before .before .before .before .before .before .args .untils .now) (c .before .before .before .before .before .before .before .before .args .table .now) _ _ _ (c .before .before .loop-test .taken) (c .before .before .before .loop .inv) (c .if1 .taken)
+loop-again c = drawing-met (c .before .before .loop-test .taken) (c .before .before .before .loop .inv) (c .if1 .taken)
 
--- src/least.rt:190:19
 mul-end : tie.Need-mul-end Inv-loop μ-loop
 mul-end c = search needs
 
--- src/least.rt:190:19
 shared-slice-read-end : tie.Need-shared-slice-read-end Inv-loop μ-loop
 shared-slice-read-end c = search needs
 
--- src/least.rt:190:19
 cast-end : tie.Need-cast-end Inv-loop μ-loop
 cast-end c = omega (arith, c .shared-slice-known5 .given (c .before .before .before .before .loop .i))
 
--- src/least.rt:191:28
 mul-draw-run : tie.Need-mul-draw-run Inv-loop μ-loop
 mul-draw-run c = search needs
 
--- src/least.rt:191:28
 shared-slice-read-draw-run : tie.Need-shared-slice-read-draw-run Inv-loop μ-loop
 shared-slice-read-draw-run c = omega (arith, ends-many _ _ _ _ (c .before .before .before .before .before .before .before .before .before .before .before .pre .windows))
 
--- src/least.rt:191:28
 cast-draw-run : tie.Need-cast-draw-run Inv-loop μ-loop
 cast-draw-run c = omega (arith, c .shared-slice-known6 .given (c .before .before .before .before .before .before .loop .i))
 
--- src/least.rt:191:9
 draw-run-requires : tie.Need-draw-run-requires Inv-loop μ-loop
-draw-run-requires c κs = run-fits (c .before .before .before .before .before .before .before .before .before .before .before .args .starts .now) (c .before .before .before .before .before .before .before .before .before .before .before .args .ends .now) (c .before .before .before .before .before .before .before .before .before .before .before .args .untils .now) (c .before .before .before .before .before .before .before .before .before .before .before .args .table .now) _ _ _ (c .before .before .before .before .before .loop-test .taken) (c .before .before .before .before .before .before .loop .inv) (c .before .before .before .if1 .left) (c .before .before .before .before .before .before .before .before .before .before .before .pre)
+draw-run-requires c κs = run-fits (c .before .before .before .before .before .loop-test .taken) (c .before .before .before .before .before .before .loop .inv) (c .before .before .before .if1 .left) (c .before .before .before .before .before .before .before .before .before .before .before .pre)
 
--- src/least.rt:193:9
 add-i-2 : tie.Need-add-i-2 Inv-loop μ-loop
 add-i-2 c = search needs
 
--- src/least.rt:185:5
 loop-less-2 : tie.Need-loop-less-2 Inv-loop μ-loop
 loop-less-2 c = search needs
 
--- src/least.rt:185:5
 loop-again-2 : tie.Need-loop-again-2 Inv-loop μ-loop
-loop-again-2 c = drawing-run (c .before .before .before .before .before .before .before .before .before .before .before .before .before .before .args .starts .now) (c .before .before .before .before .before .before .before .before .before .before .before .before .before .before .args .ends .now) (c .before .before .before .before .before .before .before .before .before .before .before .before .before .before .args .untils .now) (c .before .before .before .before .before .before .before .before .before .before .before .before .before .before .args .table .now) _ _ _ (c .before .before .before .before .before .before .before .before .loop-test .taken) (c .before .before .before .before .before .before .before .before .before .loop .inv) (c .before .before .before .before .before .before .if1 .left) (c .before .before .before .before .before .before .before .before .before .before .before .before .before .before .pre) _ (c .before .before .draw-run .kept .0) (c .before .before .draw-run .ensures)
+loop-again-2 c = drawing-run (c .before .before .before .before .before .before .before .before .loop-test .taken) (c .before .before .before .before .before .before .before .before .before .loop .inv) (c .before .before .before .before .before .before .if1 .left) (c .before .before .before .before .before .before .before .before .before .before .before .before .before .before .pre) _ (c .before .before .draw-run .kept .0) (c .before .before .draw-run .ensures)
 
--- src/least.rt:196:5
 fill-requires : tie.Need-fill-requires Inv-loop μ-loop
 fill-requires c κs = search needs
 
--- src/least.rt:179:1
 same-length : tie.Need-same-length Inv-loop μ-loop
 same-length c = search needs
 
--- src/least.rt:179:1
 returns : tie.Need-returns Inv-loop μ-loop
-returns c = drawing-end (c .before .before .before .before .before .before .before .before .before .before .args .starts .now) (c .before .before .before .before .before .before .before .before .before .before .args .ends .now) (c .before .before .before .before .before .before .before .before .before .before .args .untils .now) (c .before .before .before .before .before .before .before .before .before .before .args .table .now) _ _ _ _ (c .before .before .before .before .loop-test .left) (c .before .before .fill .kept .0) (c .before .before .fill .ensures) (c .before .before .before .before .before .loop .inv)
+returns c = drawing-end (c .before .before .fill .last .0) (c .before .before .before .before .loop-test .left) (c .before .before .fill .kept .0) (c .before .before .fill .ensures) (c .before .before .before .before .before .loop .inv)
 
 pub draw-spec : {M : Type 1} → statement M
 draw-spec =

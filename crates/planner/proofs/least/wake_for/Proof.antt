@@ -1,13 +1,9 @@
+use Prim.Native.Nat.{_-_}
 use borrow.Author.Needs.{needs}
-use Prim.Native.Nat.{_+_, _-_, _≤_, _<_, min}
-use lib.ListN.{length, getD}
-use native.Mathlib.Omega.{arith}
-use Rattle.planner.proofs.Sleeping.{Waked, waked-start, waked-turn, waked-end}
+use lib.ListN.{length}
+use Rattle.planner.proofs.Sleeping.{Waked, waked-turn, waked-end}
 use Rattle.planner.proofs.least.wake_for.Statement.{statement}
 use Rattle.planner.proofs.least.wake_for.Tie as tie
-use Rattle.planner.proofs.least.wake_for.Reads as reads
-use Rattle.planner.proofs.least.wake_for.Lts as lts
-use Rattle.planner.proofs.least.rest_of.Reads as rest-of-reads
 
 abbrev Inv-loop : tie.InvT-loop
 Inv-loop first cost starts rests₀ k₀ rests k = Waked first cost starts rests₀ rests k
@@ -15,55 +11,42 @@ Inv-loop first cost starts rests₀ k₀ rests k = Waked first cost starts rests
 abbrev μ-loop : tie.MeasureT-loop
 μ-loop first cost starts rests₀ k₀ rests k = length starts - k
 
--- src/least.rt:125:5
 loop-holds : tie.Need-loop-holds Inv-loop μ-loop
 loop-holds c = search needs
 
--- src/least.rt:126:28
 mul-rest-of : tie.Need-mul-rest-of Inv-loop μ-loop
 mul-rest-of c = search needs
 
--- src/least.rt:126:28
 shared-slice-read-rest-of : tie.Need-shared-slice-read-rest-of Inv-loop μ-loop
 shared-slice-read-rest-of c = search needs
 
--- src/least.rt:126:52
 mul-rest-of-2 : tie.Need-mul-rest-of-2 Inv-loop μ-loop
 mul-rest-of-2 c = search needs
 
--- src/least.rt:126:52
 slice-read-rest-of : tie.Need-slice-read-rest-of Inv-loop μ-loop
 slice-read-rest-of c = search needs
 
--- src/least.rt:126:20
 rest-of-requires : tie.Need-rest-of-requires Inv-loop μ-loop
 rest-of-requires c κs = search needs
 
--- src/least.rt:126:9
 mul-rests : tie.Need-mul-rests Inv-loop μ-loop
 mul-rests c = search needs
 
--- src/least.rt:126:9
 slice-write-rests : tie.Need-slice-write-rests Inv-loop μ-loop
 slice-write-rests c = search needs
 
--- src/least.rt:127:9
 add-k : tie.Need-add-k Inv-loop μ-loop
 add-k c = search needs
 
--- src/least.rt:125:5
 loop-less : tie.Need-loop-less Inv-loop μ-loop
 loop-less c = search needs
 
--- src/least.rt:125:5
 loop-again : tie.Need-loop-again Inv-loop μ-loop
 loop-again c = waked-turn _ _ _ _ _ _ _ (c .before .before .before .loop-test .taken) (c .rest-of .ensures) (c .before .before .before .before .loop .inv)
 
--- src/least.rt:120:1
 same-length : tie.Need-same-length Inv-loop μ-loop
 same-length c = search needs
 
--- src/least.rt:120:1
 returns : tie.Need-returns Inv-loop μ-loop
 returns c = waked-end _ _ _ _ _ _ (c .loop-test .left) (c .before .loop .inv)
 
