@@ -6,3 +6,8 @@ pub mod Readiness
 pub mod SlotBySlot
 pub mod Searching
 pub mod Filling
+pub mod Placing
+pub mod Sleeping
+pub mod Pricing
+pub mod Drawing
+pub mod Marking

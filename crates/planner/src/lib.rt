@@ -2,3 +2,4 @@
 mod order; // order.rt: the jobs by a key
 mod serving; // serving.rt: runs of earliest deadline first, step 4 among them
 mod overload; // overload.rt: step 1
+mod least; // least.rt: step 2, the least skeleton
