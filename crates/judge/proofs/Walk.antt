@@ -2,15 +2,15 @@
 use Prim.Native.Nat.{ℕ, zero, suc, _+_, _-_, _≤_, _<_}
 use mathlib.Core.Path.{_≡_, refl, sym, ap, ap₂, _∙_}
 use mathlib.Core.Bool.{Bool, true, false}
-use mathlib.Core.List.{List, [], _∷_, _++_}
+use mathlib.Core.List.{List}
 use native.Mathlib.Numerals.{add-one}
 use native.Mathlib.Nat.{sub-zero}
 use native.Mathlib.Decide.{ℕ-discrete}
 use native.Mathlib.Omega.{arith}
 use borrow.Author.Tests.{lt-ltb, le-ltb, ltb-true, leb-false}
 use lib.ListN.{length, getD, set, take, replicate, length-set, length-replicate, getD-replicate}
-use lib.Seq.{take-suc, take-all, getD-set-same, getD-set-other}
-use lib.Dec.{leb, ltb, eqb}
+use lib.Seq.{take-all, getD-set-same, getD-set-other}
+use lib.Dec.{leb, ltb}
 use Rattle.sched.specs.Bounded.Laws.{by-bool}
 use Rattle.sched.specs.Slots.{times}
 use Rattle.sched.specs.Checks.{unless, andThen}

@@ -1,11 +1,11 @@
 -- A buffer that is filled piece by piece, each piece by a function that is lent the part from behind the last one.
-use Prim.Native.Nat.{ℕ, _+_, _-_, _≤_}
+use Prim.Native.Nat.{ℕ, _-_, _≤_}
 use mathlib.Core.Path.{_≡_, refl, sym, ap, _∙_}
 use mathlib.Core.List.{List, [], _∷_, _++_, append-assoc, append-nil}
 use native.Mathlib.Omega.{arith}
 use borrow.Rule.Slice.PartMut.{midOf, putMid, postOf, post-is}
 use lib.ListN.{length, set, take, drop, length-append, length-drop, drop-of-length-le}
-use lib.Seq.{take-all, take-at, drop-at, drop-drop, length-front}
+use lib.Seq.{take-all, take-at, drop-at, drop-drop}
 use Rattle.record.specs.Record.{stored}
 
 pub length-stored : (bytes out : List ℕ) → length bytes ≤ length out → length (stored bytes out) ≡ length out

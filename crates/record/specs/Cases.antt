@@ -1,7 +1,6 @@
 -- 01, "Plans worked by hand": the plan record of the third plan. A closed case, so that an edit of a definition is refused here.
-use Prim.Native.Nat.{ℕ}
 use mathlib.Core.Path.{_≡_, refl}
-use mathlib.Core.List.{List, [], _∷_}
+use mathlib.Core.List.{[], _∷_}
 use Rattle.sched.specs.Bounded.{keep}
 use Rattle.record.specs.Record.{bits, mapFrom, recordOf, recordBytes}
 

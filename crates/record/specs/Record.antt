@@ -13,7 +13,6 @@ use Rattle.sched.specs.Checks.{unless, andThen}
 use Rattle.sched.specs.declared.Checked.{Checked}
 use Rattle.sched.specs.declared.Checked.the-variants.{Passed, Refused as Faulty}
 use Rattle.sched.specs.declared.Refusal.the-variants.{OutOfRange, TooShort, BadByte}
-use Rattle.record.specs.declared.RecordSize.{RecordSize}
 use Rattle.record.specs.declared.RecordWritten.{RecordWritten}
 use Rattle.record.specs.declared.RecordWritten.the-variants.{Written, Refused}
 pub mod Laws

@@ -1,18 +1,17 @@
 -- A record determines its horizon and the bytes of its table: two tables that are long enough and have one record agree in both.
-use Prim.Native.Nat.{ℕ, zero, suc, _+_, _*_, _-_, _/_, _%_, _≤_, _<_}
+use Prim.Native.Nat.{ℕ, zero, suc, _+_, _*_, _/_, _%_, _≤_, _<_}
 use mathlib.Core.Path.{_≡_, refl, sym, ap, _∙_}
 use mathlib.Core.Bool.{Bool, true, false, not}
 use mathlib.Core.List.{List, [], _∷_, _++_}
 use native.Mathlib.Decide.{ℕ-discrete, decLt}
 use native.Mathlib.Omega.{arith}
 use borrow.Author.Tests.{eq-eqb, ne-eqb}
-use lib.ListN.{length, getD, take, drop, length-map}
+use lib.ListN.{length, take, drop, length-map}
 use lib.Seq.{take-at, drop-at, length-take-le, ext-getD}
 use lib.Dec.{eqb}
-use Rattle.sched.specs.Bounded.{keep}
 use Rattle.sched.specs.Bounded.Laws.{true-not-false}
 use Rattle.sched.specs.Slots.{awake, awakeOf}
-use Rattle.record.specs.Record.{bitOf, bits, mapFrom, mapLength, mapOf, slotBytes, horizonBytes, frontOf, recordOf, recordBytes}
+use Rattle.record.specs.Record.{bitOf, bits, mapFrom, mapLength, mapOf, slotBytes, recordOf, recordBytes}
 use Rattle.record.specs.Record.Laws.{bit-small, slot-awake, slot-asleep, length-map-of}
 
 -- the map determines which slots are awake

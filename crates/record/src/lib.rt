@@ -65,7 +65,7 @@ fn map_byte(slots: &[u8], first: usize) -> u8
     byte
 }
 
-// The ones of the map.
+// The ones of the map, which are the awake slots.
 fn count_awake(slots: &[u8]) -> usize
     requires { ⌜ length (now slots) ≤ 4096 ⌝ }
     ensures { λ r. ⌜ r ≡ total (map ones (mapOf (awakeOf (now (slots .entry))))) ⌝ }
@@ -80,6 +80,7 @@ fn count_awake(slots: &[u8]) -> usize
     awake
 }
 
+// The map, from the front of what is lent.
 fn fill_map(slots: &[u8], map: &mut [u8])
     requires { ⌜ (length (now slots) ≤ 4096) × (mapLength (length (now slots)) ≤ length (now map)) ⌝ }
     ensures { λ _. ⌜ now (map .exit) ≡ stored (mapOf (awakeOf (now (slots .entry)))) (now (map .entry)) ⌝ }

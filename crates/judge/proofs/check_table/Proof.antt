@@ -1,6 +1,6 @@
 -- `judge::check_table` meets its contract: the pass keeps `Walk`, and the counters are what 24 asks for.
 use Prim.Native.Nat.{_-_}
-use mathlib.Core.Path.{_≡_, sym, _∙_}
+use mathlib.Core.Path.{sym, _∙_}
 use native.Mathlib.Omega.{arith}
 use borrow.Author.Needs.{needs}
 use lib.ListN.{length, getD}

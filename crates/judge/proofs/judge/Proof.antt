@@ -1,5 +1,5 @@
 -- `judge::judge` meets its contract: the list checks, then the table.
-use mathlib.Core.Path.{_≡_, sym, _∙_}
+use mathlib.Core.Path.{sym, _∙_}
 use Rattle.sched.specs.Checks.Laws.{passes}
 use Rattle.judge.specs.Verdict.{lent}
 use Rattle.judge.specs.Verdict.Laws.{list-refused, list-passed, tells, passes-sized}

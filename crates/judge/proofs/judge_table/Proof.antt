@@ -1,5 +1,5 @@
 -- `judge::judge_table` meets its contract: 17, then the table's check and figures on the first h bytes.
-use mathlib.Core.Path.{_≡_, refl, sym, _∙_}
+use mathlib.Core.Path.{refl, sym, _∙_}
 use native.Mathlib.Omega.{arith}
 use lib.ListN.{length-take}
 use lib.Seq.{length-take-le}

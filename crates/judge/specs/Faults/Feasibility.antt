@@ -1,24 +1,23 @@
 -- A table of H bytes has no fault exactly when it is feasible for the list.
 use Prim.Native.Nat.{ℕ, zero, suc, _+_, _≤_, _<_}
-use mathlib.Core.Path.{_≡_, refl, sym, ap, _∙_}
-use mathlib.Core.Bool.{Bool, true, false}
-use mathlib.Core.List.{List, [], _∷_}
-use mathlib.Core.Logic.{_⊎_, inl, inr}
-use native.Mathlib.Decide.{ℕ-discrete, decLe}
+use mathlib.Core.Path.{_≡_, refl, ap, _∙_}
+use mathlib.Core.Bool.{false}
+use mathlib.Core.List.{List}
+use native.Mathlib.Decide.{ℕ-discrete}
 use native.Mathlib.Omega.{arith}
 use borrow.Author.Tests.{le-ltb, lt-leb, leb-false, ltb-false}
 use lib.ListN.{length, getD, take}
 use lib.Seq.{take-length}
 use lib.Dec.{leb, ltb}
 use Rattle.sched.specs.Jobs.{Jobs, count, release, deadline, volume}
-use Rattle.sched.specs.Slots.{times, idle, asleep}
-use Rattle.sched.specs.Checks.{Passes, unless, andThen}
-use Rattle.sched.specs.Feasible.{OwnSlot, Feasible}
+use Rattle.sched.specs.Slots.{times}
+use Rattle.sched.specs.Checks.{Passes, andThen}
+use Rattle.sched.specs.Feasible.{Feasible}
 use Rattle.sched.specs.declared.Checked.{Checked}
 use Rattle.sched.specs.declared.Checked.the-variants.{Passed}
 use Rattle.sched.specs.declared.Refusal.the-variants.{TooRare}
 use Rattle.judge.specs.Times.{times-front, times-named, times-other, times-none}
-use Rattle.judge.specs.Faults.{slotFault, spentIn, slotCheck, slotsFrom, rareFrom, tableCheck}
+use Rattle.judge.specs.Faults.{spentIn, slotCheck, slotsFrom, rareFrom, tableCheck}
 use Rattle.judge.specs.Faults.Laws.{unless-passed, then-passed, GoodSlot, slot-good, good-passes}
 
 -- all slots, and all jobs, pass where each one does

@@ -1,10 +1,10 @@
 -- The check of one slot: each way out from the tests that lead to it, and what a slot without a fault holds.
 use Prim.Native.Nat.{ℕ, _≤_, _<_}
-use mathlib.Core.Path.{_≡_, refl, sym, ap, _∙_}
+use mathlib.Core.Path.{_≡_, refl, sym}
 use mathlib.Core.Bool.{Bool, true, false, not, _&&_, _||_}
 use mathlib.Core.Logic.{_⊎_, inl, inr}
 use native.Mathlib.Omega.{arith}
-use borrow.Author.Tests.{le-leb, lt-leb, lt-ltb, le-ltb, eq-eqb, ne-eqb, leb-true, leb-false, ltb-false, eqb-true, not-false}
+use borrow.Author.Tests.{le-leb, lt-leb, lt-ltb, le-ltb, eq-eqb, ne-eqb, leb-false, ltb-false, eqb-true, not-false}
 use lib.Dec.{leb, ltb, eqb}
 use Rattle.sched.specs.Bounded.Laws.{by-bool, true-not-false, or-false}
 use Rattle.sched.specs.Checks.{unless, andThen}
@@ -40,7 +40,7 @@ module _ (n r d t byte : ℕ) (spent : Bool) where
 
 -- checks that pass
 
-pub refused-not-passed : {A : Type 0} (r : Refusal) → _≡_ {A = Checked} (Refused r) Passed → A
+refused-not-passed : {A : Type 0} (r : Refusal) → _≡_ {A = Checked} (Refused r) Passed → A
 refused-not-passed r e = let z : _≡_ {A = ℕ} 0 1 = cc in absurd (omega arith)
 
 pub unless-passed : (b : Bool) (r : Refusal) (c : Checked) → unless b r c ≡ Passed → (b ≡ false) × (c ≡ Passed)

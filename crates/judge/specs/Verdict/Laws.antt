@@ -1,12 +1,11 @@
 -- The cases of the judge's answer, each from what the checks said.
 use Prim.Native.Nat.{ℕ, _≤_, _<_}
-use mathlib.Core.Path.{_≡_, refl, sym, ap, _∙_}
+use mathlib.Core.Path.{_≡_, ap}
 use mathlib.Core.List.{List}
 use borrow.Author.Tests.{lt-ltb, le-ltb}
 use lib.ListN.{length, take}
 use Rattle.sched.specs.Jobs.{Jobs}
 use Rattle.sched.specs.Checks.{Passes, listCheck}
-use Rattle.sched.specs.Checks.Laws.{passes}
 use Rattle.sched.specs.declared.Checked.the-variants.{Passed, Refused as Faulty}
 use Rattle.sched.specs.declared.Refusal.{Refusal}
 use Rattle.sched.specs.declared.Refusal.the-variants.{TooShort}

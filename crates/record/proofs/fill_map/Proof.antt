@@ -1,6 +1,5 @@
 -- `record::fill_map` meets its contract: it stores one map byte a turn.
 use Prim.Native.Nat.{_-_}
-use native.Mathlib.Omega.{arith}
 use borrow.Author.Needs.{needs}
 use Rattle.sched.specs.Slots.{awakeOf}
 use Rattle.record.specs.Record.Laws.{map-of}

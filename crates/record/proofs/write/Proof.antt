@@ -1,5 +1,5 @@
 -- `record::write` meets its contract: the tests on horizon and table, then the record of the first h bytes.
-use mathlib.Core.Path.{_≡_, sym, _∙_}
+use mathlib.Core.Path.{sym, _∙_}
 use native.Mathlib.Omega.{arith}
 use lib.ListN.{length-take}
 use lib.Seq.{length-take-le}

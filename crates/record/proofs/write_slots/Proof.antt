@@ -1,5 +1,5 @@
 -- `record::write_slots` meets its contract: the ones of the map give the length, which is tested before anything is written.
-use mathlib.Core.Path.{_≡_, refl, sym, _∙_}
+use mathlib.Core.Path.{refl, _∙_}
 use mathlib.Core.Bool.{not}
 use native.Mathlib.Omega.{arith}
 use lib.ListN.{length, length-map}

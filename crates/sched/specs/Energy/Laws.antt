@@ -1,5 +1,5 @@
 -- How large the figures of a table can get: a run needs a sleeping slot before the next one, so there are at most (H + 1) / 2 of them.
-use Prim.Native.Nat.{ℕ, suc, _+_, _*_, _≤_}
+use Prim.Native.Nat.{ℕ, _+_, _*_, _≤_}
 use mathlib.Core.Bool.{Bool, true, false}
 use mathlib.Core.List.{List, [], _∷_}
 use native.Mathlib.Nat.{mul-le-mul}

@@ -1,7 +1,8 @@
+-- `table_cases::alternate` is safe and ends: the table keeps its length.
 use Prim.Native.Nat.{_-_}
 use mathlib.Core.Path.{_≡_}
 use borrow.Author.Needs.{needs}
-use lib.ListN.{length, length-set}
+use lib.ListN.{length}
 use Rattle.table_cases.proofs.alternate.Statement.{statement}
 use Rattle.table_cases.proofs.alternate.Tie as tie
 

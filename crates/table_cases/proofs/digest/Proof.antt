@@ -1,3 +1,4 @@
+-- `table_cases::digest` is safe and ends: the sum stays below its modulus.
 use Prim.Native.Nat.{_-_, _<_}
 use borrow.Author.Needs.{needs}
 use native.Mathlib.Omega.{arith}

@@ -1,3 +1,4 @@
+-- `table_cases::show_bytes` is safe and ends.
 use Prim.Native.Nat.{_-_}
 use borrow.Author.Needs.{needs}
 use native.Mathlib.Omega.{arith}

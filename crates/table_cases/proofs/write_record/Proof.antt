@@ -1,3 +1,4 @@
+-- `table_cases::write_record` is safe: the part is as long as its end says.
 use mathlib.Core.Path.{sym}
 use lib.Seq.{length-take-le}
 use borrow.Author.Needs.{needs}
