@@ -1,3 +1,4 @@
 pub mod Inserting
 pub mod Sorting
 pub mod LowestBit
+pub mod Chaining

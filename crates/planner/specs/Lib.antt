@@ -4,3 +4,4 @@ pub mod Order
 pub mod Mask
 pub mod Ranks
 pub mod Runs
+pub mod Chains
