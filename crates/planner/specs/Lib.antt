@@ -5,3 +5,4 @@ pub mod Mask
 pub mod Ranks
 pub mod Runs
 pub mod Chains
+pub mod Extending
