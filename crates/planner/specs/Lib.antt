@@ -6,3 +6,4 @@ pub mod Ranks
 pub mod Runs
 pub mod Chains
 pub mod Extending
+pub mod Overload

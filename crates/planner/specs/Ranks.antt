@@ -14,6 +14,7 @@ use Rattle.edf.specs.Search.{stateOf}
 use Rattle.edf.specs.Chain.{Sooner, jobAt}
 use Rattle.planner.specs.Mask.{mask}
 pub mod Laws
+pub mod Lowest
 
 -- when each job may run, from the lists that are lent
 abbrev pub spansOf : List ℕ → List ℕ → Spans

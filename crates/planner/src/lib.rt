@@ -3,3 +3,4 @@ mod order; // order.rt: the jobs by a key
 mod serving; // serving.rt: runs of earliest deadline first, step 4 among them
 mod chain; // chain.rt: what waking a slot changes
 mod extend; // extend.rt: step 3
+mod overload; // overload.rt: step 1

@@ -1,9 +1,9 @@
 -- Two runs one unit of a job apart serve the same jobs as long as the run that has the unit keeps one of that job.
-use Prim.Native.Nat.{ℕ, zero, suc, _+_, _-_, _≤_, _<_}
+use Prim.Native.Nat.{ℕ, suc, _≤_, _<_}
 use mathlib.Core.Path.{_≡_, refl, ap, sym, _∙_}
-use mathlib.Core.Bool.{Bool, true, false}
+use mathlib.Core.Bool.{Bool, true}
 use mathlib.Core.Option.{Option, none, some}
-use mathlib.Core.Logic.{_⊎_, inl, inr, _≢_}
+use mathlib.Core.Logic.{_⊎_, inl, inr}
 use native.Mathlib.Omega.{arith}
 use native.Mathlib.Decide.{ℕ-discrete, le-ind}
 use Rattle.sched.specs.Bounded.Laws.{lt-suc}
@@ -76,7 +76,7 @@ pub record AlikeTo (F : Spans) (S S′ : ℕ → Bool) (p : State) (k a b : ℕ)
   pub apart : OneMore k (left F S p b) (left F S′ p b)
   pub same : (t : ℕ) → a ≤ t → t < b → served F S p t ≡ served F S′ p t
 
-module _ (F : Spans) (S S′ : ℕ → Bool) (p : State) (x : ℕ) (c : Extra S S′ x) where
+module _ (F : Spans) (p : State) {S S′ : ℕ → Bool} {x : ℕ} (c : Extra S S′ x) where
   next-alike : (k a b : ℕ) → x < b → AlikeTo F S S′ p k a b → 0 < left F S p (suc b) k → AlikeTo F S S′ p k a (suc b)
   unfolding left
   next-alike k a b l h u =
@@ -100,8 +100,8 @@ module _ (F : Spans) (S S′ : ℕ → Bool) (p : State) (x : ℕ) (c : Extra S 
       (λ s q ih v. next-alike k a s (omega arith) (ih (omega (arith, left-falls F S p s (suc s) k (omega arith)))) v)
       b m u
 
-  pub alike-byte : (k a b : ℕ) → x < a → AlikeTo F S S′ p k a b → (t : ℕ) → a ≤ t → t < b → byteOf F S p t ≡ byteOf F S′ p t
-  alike-byte k a b l h t m n =
+  pub alike-byte : {k a b : ℕ} → x < a → AlikeTo F S S′ p k a b → (t : ℕ) → a ≤ t → t < b → byteOf F S p t ≡ byteOf F S′ p t
+  alike-byte l h t m n =
       rw (c .same t (omega arith)) (ap (λ (o : Option ℕ). slotByte (S t) o) (here (h .same t m n)))
     where
       here : served F S p t ≡ served F S′ p t → served F S p t ≡ chosen F (S t) t (left F S′ p t)

@@ -1,7 +1,6 @@
 -- The last slot that holds a byte: searching for it downwards, keeping it while slots are filled in rising order, and after a store.
-use Prim.Native.Nat.{ℕ, zero, suc, _+_, _-_, _≤_, _<_, max}
-use mathlib.Core.Path.{_≡_, refl, ap, sym, _∙_}
-use mathlib.Core.Bool.{Bool, true, false}
+use Prim.Native.Nat.{ℕ, zero, suc, _-_, _≤_, _<_, max}
+use mathlib.Core.Path.{_≡_, refl, sym, _∙_}
 use mathlib.Core.List.{List}
 use mathlib.Core.Logic.{_⊎_, inl, inr, _≢_}
 use native.Mathlib.Omega.{arith}
@@ -35,6 +34,14 @@ module _ (j : ℕ) (table : List ℕ) (all : ℕ) where
   scan-found (suc s) l f e =
       let q : suc s - 1 ≡ s = omega arith in
       e ∙ end-here j s table (rw q at f)
+
+  -- a search that has j below it does not run out
+  pub scan-above : (s t : ℕ) → t < s → getD table t 0 ≡ j → getD table (s - 1) 0 ≢ j → t < s - 1
+  scan-above s t l e f = go (ℕ-discrete (s - 1) t)
+    where
+      go : Dec (s - 1 ≡ t) → t < s - 1
+      go (yes q) = absurd (f (rw q e))
+      go (no g) = omega arith
 
   pub scan-end : (s : ℕ) → s ≡ 0 → all ≡ endBelow j s table → all ≡ 0
   unfolding endBelow
@@ -89,7 +96,8 @@ unfolding endOf
 end-within j table = ends-below j (length table) table .within
 
 -- Only the slots below s count, and of those only whether they hold j.
-pub ends-alike : (j s : ℕ) (a b : List ℕ) (e : ℕ) → ((t : ℕ) → t < s → getD a t 0 ≡ j → getD b t 0 ≡ j) → ((t : ℕ) → t < s → getD b t 0 ≡ j → getD a t 0 ≡ j) → Ends j s a e → Ends j s b e
+pub ends-alike : (j s : ℕ) (a b : List ℕ) (e : ℕ) →
+    ((t : ℕ) → t < s → getD a t 0 ≡ j → getD b t 0 ≡ j) → ((t : ℕ) → t < s → getD b t 0 ≡ j → getD a t 0 ≡ j) → Ends j s a e → Ends j s b e
 ends-alike j s a b e to back c =
     record {
       within = c .within;
@@ -108,8 +116,8 @@ module _ (table : List ℕ) (s v : ℕ) (inside : s < length table) where
       end-lower j s (set table s v) (λ e. f (sym e ∙ getD-set-same table s v 0 inside))
       ∙ sym
       (end-is j s (set table s v) (endBelow j s table)
-        (ends-alike j s table (set table s v) (endBelow j s table) (λ t l e. getD-set-other table s t v 0 (omega arith) ∙ e)
-          (λ t l e. sym (getD-set-other table s t v 0 (omega arith)) ∙ e) (ends-below j s table)))
+      (ends-alike j s table (set table s v) (endBelow j s table) (λ t l e. getD-set-other table s t v 0 (omega arith) ∙ e)
+      (λ t l e. sym (getD-set-other table s t v 0 (omega arith)) ∙ e) (ends-below j s table)))
 
 -- Slot t, which holds no job, takes job j; and slot w, which job j gives up for it, is left blank.
 
@@ -161,6 +169,13 @@ module _ (h : ℕ) (table : List ℕ) (long : length table ≡ h) (blank j w : �
       go u l m (yes a) _ = λ q. ends-below j w table .last u l a (sym (getD-set-other table w u blank 0 (omega arith)) ∙ q)
       go u l m (no a) (yes b) = λ q. c .last u b m (sym (getD-set-other table w u blank 0 (omega arith)) ∙ q)
       go u l m (no a) (no b) = let e : u ≡ w = omega arith in rw e (λ q. f (sym (getD-set-same table w blank 0 (omega arith)) ∙ q))
+
+  -- the search below w finds the end that j has once slot w is another's
+  pub scan-finds-end : blank ≢ j → Ends j h table (suc w) → endBelow j w table ≡ endOf j (set table w blank)
+  unfolding endOf
+  scan-finds-end f c =
+      let q : length (set table w blank) ≡ h = length-set table w blank ∙ long in
+      rw q (end-is j h (set table w blank) (endBelow j w table) (ends-blank f c))
 
   pub ends-unblanked : (i : ℕ) → i ≢ j → i ≢ blank → getD table w 0 ≡ j → (e : ℕ) → Ends i h table e → Ends i h (set table w blank) e
   ends-unblanked i f g v e c =

@@ -1,13 +1,12 @@
 -- The table of a run against its states: which job a slot serves, and when a unit of a job is left.
-use Prim.Native.Nat.{ℕ, zero, suc, _+_, _-_, _≤_, _<_}
+use Prim.Native.Nat.{ℕ, zero, suc, _+_, _≤_, _<_}
 use mathlib.Core.Path.{_≡_, refl, ap, sym, _∙_}
-use mathlib.Core.Bool.{Bool, true, false, false≢true}
-use mathlib.Core.List.{List}
+use mathlib.Core.Bool.{Bool, true, false}
 use mathlib.Core.Option.{Option, none, some}
-use mathlib.Core.Logic.{_⊎_, inl, inr, _≢_}
+use mathlib.Core.Logic.{_≢_}
 use native.Mathlib.Omega.{arith}
-use native.Mathlib.Decide.{ℕ-discrete, decLt, le-ind}
-use lib.ListN.{length, getD}
+use native.Mathlib.Decide.{le-ind}
+use lib.ListN.{getD}
 use Rattle.edf.specs.Run.{Spans, State, chosen, lowered, after, slotByte, bytes, left}
 use Rattle.edf.specs.Pick.{Chosen, View, view}
 use Rattle.edf.specs.Units.{lowered-there, lowered-elsewhere}
@@ -80,23 +79,26 @@ pub record LastServed (F : Spans) (S : ℕ → Bool) (p : State) (H j e : ℕ) :
   pub serves : (t : ℕ) → e ≡ suc t → served F S p t ≡ some j
   pub last : (t : ℕ) → e ≤ t → t < H → served F S p t ≢ some j
 
-module _ (F : Spans) (S : ℕ → Bool) (p : State) (H j : ℕ) where
+module _ {F : Spans} {S : ℕ → Bool} {p : State} {H j e : ℕ} where
   -- the table tells which slot serves a job last
-  pub ends-served : F .n ≤ 254 → j < F .n → (e : ℕ) → Ends j H (bytes F S H 0 p) e → LastServed F S p H j e
-  ends-served few l e c =
+  pub ends-served : F .n ≤ 254 → j < F .n → Ends j H (bytes F S H 0 p) e → LastServed F S p H j e
+  ends-served few l c =
       record {
         within = c .within;
         serves = λ t q. byte-serves F S p few t j l (sym (table-byte F S p H t (omega (arith, c .within))) ∙ c .holds t q);
         last = λ t a b s. c .last t a b (table-byte F S p H t b ∙ serves-byte F S p t j s);
       }
 
-  module _ (e : ℕ) (c : LastServed F S p H j e) where
-    pub left-after-last : (t : ℕ) → e ≤ t → t ≤ H → left F S p t j ≡ left F S p H j
-    left-after-last t a b = sym (le-ind (λ m. m ≤ H → left F S p m j ≡ left F S p t j) (λ _. refl) (λ m q ih l. unserved-keeps F S p m j (c .last m (omega arith) l) ∙ ih (omega arith)) H b (omega arith))
+  -- after its last slot a job keeps the units that it loses
+  pub left-after-last : LastServed F S p H j e → (t : ℕ) → e ≤ t → t ≤ H → left F S p t j ≡ left F S p H j
+  left-after-last c t a b =
+      sym
+      (le-ind (λ m. m ≤ H → left F S p m j ≡ left F S p t j) (λ _. refl)
+      (λ m q ih l. unserved-keeps F S p m j (c .last m (omega arith) l) ∙ ih (omega arith)) H b (omega arith))
 
-    pub left-before-last : (t : ℕ) → t < e → 0 < left F S p t j
-    left-before-last t l = go e refl l
-      where
-        go : (f : ℕ) → e ≡ f → t < f → 0 < left F S p t j
-        go zero q m = absurd (omega arith)
-        go (suc s) q m = omega (arith, served-less F S p s j (c .serves s q), left-falls F S p t s j (omega arith))
+  pub left-before-last : LastServed F S p H j e → (t : ℕ) → t < e → 0 < left F S p t j
+  left-before-last c t l = go e refl l
+    where
+      go : (f : ℕ) → e ≡ f → t < f → 0 < left F S p t j
+      go zero q m = absurd (omega arith)
+      go (suc s) q m = omega (arith, served-less F S p s j (c .serves s q), left-falls F S p t s j (omega arith))

@@ -58,33 +58,41 @@ module _ (f : ℕ → Bool) where
   mask-lt zero t = omega arith
   mask-lt (suc k) t = rw pow-suc (omega (arith, mask-lt k (suc t), bit-most (f t)))
 
--- g is f with x in it
-pub record Joins (f g : ℕ → Bool) (x : ℕ) : Type 0 where
+pub mask-alike : (f g : ℕ → Bool) (n : ℕ) → ((i : ℕ) → i < n → f i ≡ g i) → mask f n ≡ mask g n
+unfolding maskFrom
+mask-alike f g n h = go n 0 (λ i l m. h i (omega arith))
+  where
+    go : (k t : ℕ) → ((i : ℕ) → t ≤ i → i < t + k → f i ≡ g i) → maskFrom f k t ≡ maskFrom g k t
+    go zero t e = refl
+    go (suc k) t e = rw (e t (omega arith) (omega arith), go k (suc t) (λ i l m. e i (omega arith) (omega arith)))
+
+-- among the numbers below n, g is f with x in it
+pub record Joins (n : ℕ) (f g : ℕ → Bool) (x : ℕ) : Type 0 where
   pub out : f x ≡ false
   pub within : g x ≡ true
-  pub same : (i : ℕ) → i ≢ x → g i ≡ f i
+  pub same : (i : ℕ) → i < n → i ≢ x → g i ≡ f i
 
-module _ (f g : ℕ → Bool) (x : ℕ) (j : Joins f g x) where
-  past : (k t : ℕ) → x < t → maskFrom g k t ≡ maskFrom f k t
+module _ (n : ℕ) (f g : ℕ → Bool) (x : ℕ) (j : Joins n f g x) where
+  past : (k t : ℕ) → t + k ≤ n → x < t → maskFrom g k t ≡ maskFrom f k t
   unfolding maskFrom
-  past zero t l = refl
-  past (suc k) t l = rw (j .same t (λ e. omega arith), past k (suc t) (omega arith))
+  past zero t b l = refl
+  past (suc k) t b l = rw (j .same t (omega arith) (λ e. omega arith), past k (suc t) (omega arith) (omega arith))
 
-  from-joins : (k t : ℕ) → t ≤ x → x < t + k → maskFrom g k t ≡ maskFrom f k t + 2 ^ (x - t)
+  from-joins : (k t : ℕ) → t + k ≤ n → t ≤ x → x < t + k → maskFrom g k t ≡ maskFrom f k t + 2 ^ (x - t)
   unfolding maskFrom
-  from-joins zero t l m = absurd (omega arith)
-  from-joins (suc k) t l m = go (ℕ-discrete t x) (from-joins k (suc t))
+  from-joins zero t b l m = absurd (omega arith)
+  from-joins (suc k) t b l m = go (ℕ-discrete t x) (from-joins k (suc t))
     where
-      go : Dec (t ≡ x) → (suc t ≤ x → x < suc t + k → maskFrom g k (suc t) ≡ maskFrom f k (suc t) + 2 ^ (x - suc t)) → bit (g t) + 2 * maskFrom g k (suc t) ≡ bit (f t) + 2 * maskFrom f k (suc t) + 2 ^ (x - t)
+      go : Dec (t ≡ x) → (suc t + k ≤ n → suc t ≤ x → x < suc t + k → maskFrom g k (suc t) ≡ maskFrom f k (suc t) + 2 ^ (x - suc t)) → bit (g t) + 2 * maskFrom g k (suc t) ≡ bit (f t) + 2 * maskFrom f k (suc t) + 2 ^ (x - t)
       go (yes e) ih =
           let z : x - t ≡ 0 = omega arith in
           let on : g t ≡ true = ap g e ∙ j .within in
           let off : f t ≡ false = ap f e ∙ j .out in
-          rw (z, on, off, past k (suc t) (omega arith)) (omega arith)
-      go (no n) ih =
+          rw (z, on, off, past k (suc t) (omega arith) (omega arith)) (omega arith)
+      go (no q) ih =
           let z : x - t ≡ suc (x - suc t) = omega arith in
-          rw (z, pow-suc, j .same t n, ih (omega arith) (omega arith)) (omega arith)
+          rw (z, pow-suc, j .same t (omega arith) q, ih (omega arith) (omega arith) (omega arith)) (omega arith)
 
   -- a number joins the mask, and so leaves it, by its power of two
-  pub mask-joins : (n : ℕ) → x < n → mask g n ≡ mask f n + 2 ^ x
-  mask-joins n l = let z : x - 0 ≡ x = omega arith in rw z at (from-joins n 0 (omega arith) (omega arith))
+  pub mask-joins : x < n → mask g n ≡ mask f n + 2 ^ x
+  mask-joins l = let z : x - 0 ≡ x = omega arith in rw z at (from-joins n 0 (omega arith) (omega arith) (omega arith))

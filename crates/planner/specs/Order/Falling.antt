@@ -2,12 +2,11 @@
 use Prim.Native.Nat.{ℕ, suc, _+_, _≤_}
 use mathlib.Core.Path.{_≡_}
 use mathlib.Core.List.{List, [], _∷_, map, reverse, reverseAux}
-use mathlib.Core.Logic.{inl, inr}
 use native.Mathlib.Omega.{arith}
 use Rattle.sched.specs.Bounded.{total}
 use Rattle.edf.specs.Overload.Order.{AtMost, Falling, InOrder}
 use Rattle.planner.specs.Order.{risingBy, Before}
-use Rattle.planner.specs.Order.Laws.{Each, Rises, rising-below, rising-once, rising-rises}
+use Rattle.planner.specs.Order.Laws.{Each, Rises, before-most, rising-below, rising-once, rising-rises}
 
 -- l in reverse in front of r
 
@@ -23,11 +22,7 @@ at-most-reverse key v (x ∷ l) r (p, e) a = at-most-reverse key v l (x ∷ r) e
 -- no number of r has a greater key than one of l
 above : (key : ℕ → ℕ) (x : ℕ) (l r : List ℕ) → Each (Before key x) l → Each (λ y. AtMost key (key y) r) l → Each (λ y. AtMost key (key y) (x ∷ r)) l
 above key x [] r f a = tt
-above key x (y ∷ l) r (f, fs) (a, rest) = ((go f, a), above key x l r fs rest)
-  where
-    go : Before key x y → key x ≤ key y
-    go (inl s) = omega arith
-    go (inr (e, s)) = omega arith
+above key x (y ∷ l) r (f, fs) (a, rest) = ((before-most key x y f, a), above key x l r fs rest)
 
 falling-reverse : (key : ℕ → ℕ) (l r : List ℕ) → Rises key l → Falling key r → Each (λ y. AtMost key (key y) r) l → Falling key (reverseAux l r)
 falling-reverse key [] r s f a = f

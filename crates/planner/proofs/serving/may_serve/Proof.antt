@@ -16,7 +16,7 @@ cast-if1 : tie.Need-cast-if1
 cast-if1 c = omega (arith, c .shared-slice-known .given (c .before .args .job))
 
 returns : tie.Need-returns
-returns c = simp (lt-leb _ _ (c .if1 .taken))
+returns c = (simp (lt-leb _ _ (c .if1 .taken)), omega arith)
 
 mul-if2 : tie.Need-mul-if2
 mul-if2 c = search needs
@@ -28,7 +28,7 @@ cast-if2 : tie.Need-cast-if2
 cast-if2 c = omega (arith, c .shared-slice-known2 .given (c .before .before .before .args .job))
 
 returns-2 : tie.Need-returns-2
-returns-2 c = simp (le-leb _ _ (c .before .before .if1 .left), le-ltb _ _ (c .if2 .taken))
+returns-2 c = (simp (le-leb _ _ (c .before .before .if1 .left), le-ltb _ _ (c .if2 .taken)), omega arith)
 
 mul-if3 : tie.Need-mul-if3
 mul-if3 c = search needs
@@ -37,11 +37,10 @@ shared-slice-read-if3 : tie.Need-shared-slice-read-if3
 shared-slice-read-if3 c = search needs
 
 returns-3 : tie.Need-returns-3
-returns-3 c = simp (le-leb _ _ (c .before .before .before .before .if1 .left), lt-ltb _ _ (c .before .before .if2 .left), c .if3 .taken)
+returns-3 c = (simp (le-leb _ _ (c .before .before .before .before .if1 .left), lt-ltb _ _ (c .before .before .if2 .left), c .if3 .taken), omega arith)
 
 returns-4 : tie.Need-returns-4
-returns-4 c =
-    simp (le-leb _ _ (c .before .before .before .before .if1 .left), lt-ltb _ _ (c .before .before .if2 .left), pos-ltb _ (c .if3 .left))
+returns-4 c = (simp (le-leb _ _ (c .before .before .before .before .if1 .left), lt-ltb _ _ (c .before .before .if2 .left), pos-ltb _ (c .if3 .left)), omega arith)
 
 pub may-serve-spec : {M : Type 1} → statement M
 may-serve-spec =
