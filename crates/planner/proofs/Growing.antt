@@ -1,62 +1,34 @@
 -- A turn of step 3: the cursor finds the next slot, the chain wakes it, and the counters keep up.
 use Prim.Native.Nat.{ℕ, zero, suc, _+_, _-_, _≤_, _<_}
 use mathlib.Core.Path.{_≡_, refl, ap, sym, subst, _∙_}
-use mathlib.Core.Bool.{Bool, true, false, not, _&&_, _||_}
+use mathlib.Core.Bool.{Bool, true, false, not, _&&_}
 use mathlib.Core.List.{List, [], _∷_}
-use mathlib.Core.Option.{Option, none, some}
+use mathlib.Core.Option.{some}
 use mathlib.Core.Logic.{_⊎_, inl, inr}
 use native.Mathlib.Omega.{arith}
 use native.Mathlib.Numerals.{add-one}
 use native.Mathlib.Decide.{decLt}
-use borrow.Author.Tests.{lt-ltb, ne-eqb, eqb-true}
-use lib.Dec.{ltb, eqb}
-use lib.ListN.{length, getD, length-set}
-use lib.Seq.{ext-getD}
+use borrow.Author.Tests.{lt-ltb}
+use lib.ListN.{length, length-set}
 use Rattle.sched.specs.Bounded.{leastFrom}
 use Rattle.sched.specs.Bounded.Laws.{lt-suc, by-bool, true-not-false}
-use Rattle.sched.specs.Jobs.{Jobs, count, volume, totalVolume}
-use Rattle.sched.specs.Checks.{Passes}
+use Rattle.sched.specs.Jobs.{Jobs, count, totalVolume}
 use Rattle.sched.specs.Slots.{awake, awakeOf, touches, wakeSlot}
-use Rattle.sched.specs.Skeleton.{isSkeleton, leastSkeleton}
 use Rattle.sched.specs.Workable.{workable}
-use Rattle.sched.specs.Steps.{helps, wakes, nextWake, wokenIn, woken, wakeAll, extended}
-use Rattle.edf.specs.Run.{Spans, State, chosen, slotByte, spans}
-use Rattle.edf.specs.Pick.{View, view}
-use Rattle.edf.specs.Placements.{bytes-long}
+use Rattle.sched.specs.Steps.{wakes, nextWake, wokenIn, wakeAll, extended}
 use Rattle.edf.specs.Theorems.{unhelpful-stays, some-slot-wakes}
-use Rattle.edf.specs.Chain.{RankedJobs, Kept, Books, endOf, chainHelps, chainApply}
-use Rattle.edf.specs.Chain.Ends.{end-within}
-use Rattle.edf.specs.Chain.Served.{byteOf, served, table-byte}
-use Rattle.edf.specs.Chain.Keeping.{runBytes, kept-long}
+use Rattle.edf.specs.Chain.{Kept, gains, chainHelps, applied, chainApply}
+use Rattle.edf.specs.Chain.Bounds.{in-table-start}
+use Rattle.edf.specs.Chain.Keeping.{kept-long}
+use Rattle.edf.specs.Chain.Missing.{kept-set}
 use Rattle.edf.specs.Chain.Tests.{chain-tests}
-use Rattle.edf.specs.Chain.Updates.{chain-updates}
-use Rattle.skeleton.specs.Rival.{awake-of, awake-of-length}
+use Rattle.edf.specs.Chain.Updates.{KeptBooks, chain-updates}
 use Rattle.skeleton.specs.Waking.{Turn}
 use Rattle.skeleton.specs.Waking.Laws.{wakes-parts, wakes-turn, wake-skeleton}
 use Rattle.skeleton.specs.Waking.Cursor.{NoneBefore, StaysIdle, cursorAfter, nextFrom}
 use Rattle.skeleton.specs.Waking.Cursor.Laws.{next-from, none-before-after}
-use Rattle.planner.specs.Lists.{jobsOf}
-use Rattle.planner.specs.Chains.{timed, Readable, Wakeable, Booked}
-use Rattle.planner.specs.Chains.Laws.{helps-timed, apply-timed}
-use Rattle.planner.specs.Extending.{Extendable, Extending, Extended}
-
--- The bytes of a run are awake where its set is
-
-byte-awake : (F : Spans) → F .n ≤ 254 → (b : Bool) (t : ℕ) (L : State) (o : Option ℕ) → View F b t L o → not (eqb (slotByte b o) 255) ≡ b
-byte-awake F few false t L o v = refl
-byte-awake F few true t L none v = refl
-byte-awake F few true t L (some k) v = rw (ne-eqb k 255 (λ e. omega (arith, v .1 .able .below)))
-
-pub run-awake : (J : Jobs) (S : List Bool) → count J ≤ 254 → length S ≡ J .horizon → awakeOf (runBytes J (awake S)) ≡ S
-run-awake J S few long =
-    ext-getD false (awakeOf (runBytes J (awake S))) S (awake-of-length (runBytes J (awake S)) ∙ whole ∙ sym long)
-    (λ t l. let m : t < J .horizon = omega (arith, awake-of-length (runBytes J (awake S)), whole) in
-      awake-of (runBytes J (awake S)) t (omega (arith, whole))
-      ∙ ap (λ (x : ℕ). not (eqb x 255)) (table-byte (spans J) (awake S) (volume J) (J .horizon) t m)
-      ∙ byte-awake (spans J) few (awake S t) t _ _ (view (spans J) (awake S t) t _))
-  where
-    whole : length (runBytes J (awake S)) ≡ J .horizon
-    whole = bytes-long (spans J) (awake S) (J .horizon) 0 (volume J)
+use Rattle.planner.specs.Chains.{Readable, Wakeable, Booked}
+use Rattle.planner.specs.Extending.{Extending, Extended}
 
 -- A search that starts at its goal finds it
 
@@ -78,11 +50,8 @@ unfolding wakeAll
 no-turn S = refl
 
 module _ (J : Jobs) (S : List Bool) (order lost ends table : List ℕ) (short added cursor : ℕ) (e : Extending J S order lost ends table short added cursor) where
-  few : count J ≤ 254
-  few = omega (arith, e .passes .few)
-
   pub table-long : length table ≡ J .horizon
-  table-long = kept-long J few S table lost ends (e .kept)
+  table-long = kept-long (e .kept)
 
   pub growing-readable : Readable (J .releases) (J .deadlines) order lost ends
   growing-readable =
@@ -105,24 +74,22 @@ module _ (J : Jobs) (S : List Bool) (order lost ends table : List ℕ) (short ad
       go x m w (no b) = omega (arith, table-long)
 
   -- what is asked of a slot is whether step 3 may wake it
-  wanted : (t : ℕ) → t < J .horizon → not (awake S t) && touches S t && chainHelps (timed (J .releases) (J .deadlines)) order lost ends t ≡ wakes J S t
-  unfolding wakes
+  wanted : (t : ℕ) → t < J .horizon → not (awake S t) && touches S t && gains (J .releases) (J .deadlines) order lost ends (count J) 0 t ≡ wakes J S t
+  unfolding wakes chainHelps
   wanted t l =
       by-bool (awake S t) (λ a. rw a)
       (λ a. ap (λ (b : Bool). not (awake S t) && touches S t && b)
-        (helps-timed (J .horizon) (J .wake) (J .releases) (J .deadlines) (J .volumes) order lost ends t
-        ∙ sym (chain-tests J S order table lost ends t (e .passes) (e .long) (e .ranks) (e .kept) l a)))
+        (sym (chain-tests (e .passes) (e .long) (e .ranks) (e .kept) l a)))
 
   pub growing-wakeable : 0 < short → Wakeable (J .releases) (J .deadlines) order lost ends table cursor
   growing-wakeable l =
       record {
         readable = growing-readable;
-        slot = growing-inside l;
         small = omega (arith, table-long, e .passes .high);
-        within = λ j b. rw (e .kept .ends-is j b) (end-within j table);
+        inside = rw table-long (in-table-start (e .kept) cursor (omega (arith, growing-inside l, table-long)));
       }
 
-  module _ (l : 0 < short) (b : Bool) (asked : b ≡ not (awake S cursor) && touches S cursor && chainHelps (timed (J .releases) (J .deadlines)) order lost ends cursor) where
+  module _ (l : 0 < short) (b : Bool) (asked : b ≡ not (awake S cursor) && touches S cursor && gains (J .releases) (J .deadlines) order lost ends (count J) 0 cursor) where
     inside : cursor < J .horizon
     inside = omega (arith, growing-inside l, table-long)
 
@@ -169,24 +136,20 @@ module _ (J : Jobs) (S : List Bool) (order lost ends table : List ℕ) (short ad
           let q = woken-next n J S cursor lacking (next-is J S cursor inside (e .none-before) waking) in
           (n, omega (arith, ap length q), w ∙ ap (wakeAll S) q)
 
-      updated : Kept J (wakeSlot S cursor) ((chainApply J order table lost ends cursor) .table) ((chainApply J order table lost ends cursor) .lost) ((chainApply J order table lost ends cursor) .ends)
+      updated : KeptBooks J (wakeSlot S cursor) (applied (J .releases) (J .deadlines) order (count J) 0 cursor table lost ends)
+      unfolding chainApply
       updated =
-          chain-updates J S order table lost ends cursor (e .passes) (e .long) (e .ranks) (e .kept) inside (turn .sleeps) (wakes-parts J S cursor waking .2)
+          chain-updates (e .passes) (e .long) (e .ranks) (e .kept) inside (turn .sleeps) (wakes-parts J S cursor waking .2)
 
-      module _ (table′ lost′ ends′ : List ℕ) (booked : Booked (chainApply (timed (J .releases) (J .deadlines)) order table lost ends cursor) table′ lost′ ends′) (next : ℕ) (goes : next ≡ cursorAfter S cursor) where
-        same : chainApply (timed (J .releases) (J .deadlines)) order table lost ends cursor ≡ chainApply J order table lost ends cursor
-        same = apply-timed (J .horizon) (J .wake) (J .releases) (J .deadlines) (J .volumes) order table lost ends cursor
-
+      module _ (table′ lost′ ends′ : List ℕ) (booked : Booked (applied (J .releases) (J .deadlines) order (count J) 0 cursor table lost ends) table′ lost′ ends′) (next : ℕ) (goes : next ≡ cursorAfter S cursor) where
         kept : Kept J (wakeSlot S cursor) table′ lost′ ends′
-        kept =
-            rw (booked .table-is ∙ ap (λ (b : Books). b .table) same, booked .lost-is ∙ ap (λ (b : Books). b .lost) same, booked .ends-is ∙ ap (λ (b : Books). b .ends) same)
-            updated
+        kept = rw (booked .table-is, booked .lost-is, booked .ends-is) updated
 
         woken-long : length (wakeSlot S cursor) ≡ J .horizon
         woken-long = length-set S cursor true ∙ e .long
 
         woken-set : awakeOf table′ ≡ wakeSlot S cursor
-        woken-set = ap awakeOf (kept .table-is) ∙ run-awake J (wakeSlot S cursor) few woken-long
+        woken-set = kept-set (e .passes) woken-long kept
 
         pub growing-turn : Extending J (awakeOf table′) order lost′ ends′ table′ (short - 1) (added + 1) next
         growing-turn =

@@ -1,17 +1,12 @@
 -- What the functions of the chain ask of the lists that they are lent, and what they leave in them.
 use Prim.Native.Nat.{ℕ, _≤_, _<_}
 use mathlib.Core.Path.{_≡_}
-use mathlib.Core.List.{List, []}
-use lib.ListN.{length, getD}
-use Rattle.sched.specs.Jobs.{Jobs}
+use mathlib.Core.List.{List}
+use lib.ListN.{length}
 use Rattle.edf.specs.Chain.{jobAt, Books}
-use Rattle.planner.specs.Lists.{jobsOf}
-pub mod Laws
+use Rattle.edf.specs.Chain.Bounds.{InTable}
 
--- a chain reads no more of a list than releases and deadlines
-abbrev pub timed : List ℕ → List ℕ → Jobs
-timed releases deadlines = jobsOf 0 0 releases deadlines []
-
+-- job is a number of each list
 pub record InLists (job : ℕ) (releases deadlines lost ends : List ℕ) : Type 0 where
   pub in-releases : job < length releases
   pub in-deadlines : job < length deadlines
@@ -26,12 +21,11 @@ pub record Readable (releases deadlines order lost ends : List ℕ) : Type 0 whe
   pub ends-long : length releases ≤ length ends
   pub known : (k : ℕ) → k < length releases → jobAt order k < length releases
 
--- and no job's last slot lies outside the table
+-- and slot x and the last slot of each job lie in the table
 pub record Wakeable (releases deadlines order lost ends table : List ℕ) (x : ℕ) : Type 0 where
   pub readable : Readable releases deadlines order lost ends
-  pub slot : x < length table
   pub small : length table ≤ 4096
-  pub within : (j : ℕ) → j < length releases → getD ends j 0 ≤ length table
+  pub inside : InTable (length table) (length releases) x table ends
 
 -- the three lists as the books have them
 pub record Booked (books : Books) (table lost ends : List ℕ) : Type 0 where

@@ -3,7 +3,7 @@ use Prim.Native.Nat.{ℕ, _+_, _<_}
 use mathlib.Core.Path.{_≡_}
 use mathlib.Core.Bool.{Bool, true, false}
 use mathlib.Core.List.{List}
-use lib.ListN.{length, getD}
+use lib.ListN.{length, getD, replicate}
 use Rattle.sched.specs.Jobs.{Jobs, totalVolume}
 use Rattle.sched.specs.Checks.{Passes}
 use Rattle.sched.specs.Slots.{awakeOf}
@@ -13,6 +13,7 @@ use Rattle.sched.specs.Workable.{workable}
 use Rattle.sched.specs.Steps.{wokenIn, woken, wakeAll, extended}
 use Rattle.edf.specs.Chain.{endOf, RankedJobs, Kept}
 use Rattle.skeleton.specs.Waking.Cursor.{NoneBefore}
+use Rattle.planner.specs.Runs.{Units}
 
 -- what step 3 starts from
 pub record Extendable (J : Jobs) (order table : List ℕ) : Type 0 where
@@ -20,6 +21,12 @@ pub record Extendable (J : Jobs) (order table : List ℕ) : Type 0 where
   pub free : (a b : ℕ) → overloaded J a b ≡ false
   pub ranks : RankedJobs J order
   pub set-is : awakeOf table ≡ leastSkeleton J
+
+-- the same, with room for what is kept: the units of each job, and no ends yet
+pub record Beginning (J : Jobs) (order lost ends table : List ℕ) : Type 0 where
+  pub extendable : Extendable J order table
+  pub units : Units (J .volumes) lost
+  pub blank : ends ≡ replicate 64 0
 
 -- one more than the last slot of each job that a list may have
 pub record EndsOf (table ends : List ℕ) : Type 0 where

@@ -3,13 +3,13 @@
 ghost use mathlib.Core.Path.{_≡_};
 ghost use Prim.Native.Nat.{ℕ, _+_, _≤_, _<_, max};
 ghost use lib.ListN.{length};
-ghost use Rattle.edf.specs.Chain.{endBelow, isOpen, chainHelps, chainApply};
-ghost use Rattle.planner.specs.Chains.{timed, InLists, Readable, Wakeable, Booked};
+ghost use Rattle.edf.specs.Chain.{endBelow, isOpen, gains, applied};
+ghost use Rattle.planner.specs.Chains.{InLists, Readable, Wakeable, Booked};
 
 // The job may run in the slot, and has a unit that is lost or served later.
 fn is_open(at: usize, job: usize, releases: &[u16], deadlines: &[u16], lost: &[u16], ends: &[u16]) -> bool
     requires { ⌜ InLists job (now releases) (now deadlines) (now lost) (now ends) ⌝ }
-    ensures { λ r. ⌜ r ≡ isOpen (timed (now (releases .entry)) (now (deadlines .entry))) (now (lost .entry)) (now (ends .entry)) at job ⌝ }
+    ensures { λ r. ⌜ r ≡ isOpen (now (releases .entry)) (now (deadlines .entry)) (now (lost .entry)) (now (ends .entry)) at job ⌝ }
 {
     if at < releases[job] as usize {
         return false;
@@ -25,7 +25,7 @@ fn is_open(at: usize, job: usize, releases: &[u16], deadlines: &[u16], lost: &[u
 
 pub fn helps(x: usize, releases: &[u16], deadlines: &[u16], order: &[u8], lost: &[u16], ends: &[u16]) -> bool
     requires { ⌜ Readable (now releases) (now deadlines) (now order) (now lost) (now ends) ⌝ }
-    ensures { λ r. ⌜ r ≡ chainHelps (timed (now (releases .entry)) (now (deadlines .entry))) (now (order .entry)) (now (lost .entry)) (now (ends .entry)) x ⌝ }
+    ensures { λ r. ⌜ r ≡ gains (now (releases .entry)) (now (deadlines .entry)) (now (order .entry)) (now (lost .entry)) (now (ends .entry)) (length (now (releases .entry))) 0 x ⌝ }
 {
     let mut at = x;
     let mut k = 0;
@@ -68,7 +68,7 @@ fn later(end: u16, at: usize) -> u16
 
 pub fn wake(x: usize, releases: &[u16], deadlines: &[u16], order: &[u8], lost: &mut [u16], ends: &mut [u16], table: &mut [u8])
     requires { ⌜ Wakeable (now releases) (now deadlines) (now order) (now lost) (now ends) (now table) x ⌝ }
-    ensures { λ r. ⌜ Booked (chainApply (timed (now (releases .entry)) (now (deadlines .entry))) (now (order .entry)) (now (table .entry)) (now (lost .entry)) (now (ends .entry)) x) (now (table .exit)) (now (lost .exit)) (now (ends .exit)) ⌝ }
+    ensures { λ r. ⌜ Booked (applied (now (releases .entry)) (now (deadlines .entry)) (now (order .entry)) (length (now (releases .entry))) 0 x (now (table .entry)) (now (lost .entry)) (now (ends .entry))) (now (table .exit)) (now (lost .exit)) (now (ends .exit)) ⌝ }
 {
     let mut at = x;
     let mut k = 0;

@@ -7,12 +7,13 @@ ghost use lib.ListN.{length, replicate};
 ghost use Rattle.sched.specs.Bounded.{sumBelow};
 ghost use Rattle.sched.specs.Slots.{awake, awakeOf, touches};
 ghost use Rattle.edf.specs.Search.{stateOf};
-ghost use Rattle.edf.specs.Chain.{chainHelps};
+ghost use Rattle.edf.specs.Chain.{gains};
 ghost use Rattle.skeleton.specs.Waking.Cursor.{cursorAfter};
 ghost use Rattle.planner.specs.Lists.{jobsOf};
-ghost use Rattle.planner.specs.Chains.{timed, Readable};
-ghost use Rattle.planner.specs.Extending.{EndsOf, Extending, Extended};
+ghost use Rattle.planner.specs.Chains.{Readable};
+ghost use Rattle.planner.specs.Extending.{EndsOf, Extendable, Beginning, Extending, Extended};
 use super::chain;
+use super::serving;
 
 const ASLEEP: u8 = 255;
 
@@ -41,7 +42,7 @@ fn is_near(table: &[u8], t: usize) -> bool
 // Slot t sleeps, touches the set and helps.
 fn may_wake(t: usize, releases: &[u16], deadlines: &[u16], order: &[u8], lost: &[u16], ends: &[u16], table: &[u8]) -> bool
     requires { ⌜ Readable (now releases) (now deadlines) (now order) (now lost) (now ends) × (t < length (now table)) ⌝ }
-    ensures { λ r. ⌜ r ≡ not (awake (awakeOf (now (table .entry))) t) && touches (awakeOf (now (table .entry))) t && chainHelps (timed (now (releases .entry)) (now (deadlines .entry))) (now (order .entry)) (now (lost .entry)) (now (ends .entry)) t ⌝ }
+    ensures { λ r. ⌜ r ≡ not (awake (awakeOf (now (table .entry))) t) && touches (awakeOf (now (table .entry))) t && gains (now (releases .entry)) (now (deadlines .entry)) (now (order .entry)) (now (lost .entry)) (now (ends .entry)) (length (now (releases .entry))) 0 t ⌝ }
 {
     if is_awake(table, t) {
         return false;
@@ -100,6 +101,16 @@ fn ends_of(table: &[u8], ends: &mut [u16])
     }
 }
 
+// The run over the table's set, and what is kept of it.
+fn begin(h: u16, q: u16, releases: &[u16], deadlines: &[u16], volumes: &[u16], order: &[u8], lost: &mut [u16], ends: &mut [u16], table: &mut [u8]) -> u32
+    requires { ⌜ Beginning (jobsOf h q (now releases) (now deadlines) (now volumes)) (now order) (now lost) (now ends) (now table) ⌝ }
+    ensures { λ r. ⌜ Extending (jobsOf h q (now (releases .entry)) (now (deadlines .entry)) (now (volumes .entry))) (awakeOf (now (table .exit))) (now (order .entry)) (now (lost .exit)) (now (ends .exit)) (now (table .exit)) r 0 0 ⌝ }
+{
+    serving::run(releases, deadlines, lost, order, table);
+    ends_of(table, ends);
+    lost_in_all(lost, releases.len())
+}
+
 // Wakes a slot a turn, `shortfall` slots in all, and counts them.
 fn grow(h: u16, q: u16, releases: &[u16], deadlines: &[u16], volumes: &[u16], order: &[u8], lost: &mut [u16], ends: &mut [u16], table: &mut [u8], shortfall: u32) -> u32
     requires { ⌜ Extending (jobsOf h q (now releases) (now deadlines) (now volumes)) (awakeOf (now table)) (now order) (now lost) (now ends) (now table) shortfall 0 0 ⌝ }
@@ -121,4 +132,14 @@ fn grow(h: u16, q: u16, releases: &[u16], deadlines: &[u16], volumes: &[u16], or
         short -= 1;
     }
     added
+}
+
+pub fn extend(h: u16, q: u16, releases: &[u16], deadlines: &[u16], volumes: &[u16], order: &[u8], table: &mut [u8]) -> u32
+    requires { ⌜ Extendable (jobsOf h q (now releases) (now deadlines) (now volumes)) (now order) (now table) ⌝ }
+    ensures { λ r. ⌜ Extended (jobsOf h q (now (releases .entry)) (now (deadlines .entry)) (now (volumes .entry))) (now (table .exit)) r ⌝ }
+{
+    let mut lost = serving::units(volumes);
+    let mut ends = [0u16; 64];
+    let short = begin(h, q, releases, deadlines, volumes, order, &mut lost, &mut ends, table);
+    grow(h, q, releases, deadlines, volumes, order, &mut lost, &mut ends, table, short)
 }

@@ -1,4 +1,4 @@
-use Rattle.planner.proofs.Chaining.{Handing, end-small, handing-start, handing-end, handing-in, handing-closed, handing-lost, handing-slot, handing-inside, handing-on}
+use Rattle.planner.proofs.Chaining.{Handing, end-small, handing-start, handing-end, handing-in, handing-closed, handing-lost, handing-slot, handing-last, handing-inside, handing-on}
 use lib.ListN.{length, getD, length-set}
 use Prim.Native.Nat.{_-_}
 use native.Mathlib.Omega.{arith}
@@ -23,7 +23,7 @@ loop-holds c = handing-start _ _ _ _ _ _ _ (c .before .before .before .before .b
 
 -- src/chain.rt:76:20
 shared-slice-read-byte : tie.Need-shared-slice-read-byte Inv-loop μ-loop
-shared-slice-read-byte c = omega (arith, c .before .before .loop .inv .wakeable .readable .order-long)
+shared-slice-read-byte c = omega (arith, c .before .before .loop .inv .readable .order-long)
 
 -- src/chain.rt:77:19
 cast-job : tie.Need-cast-job Inv-loop μ-loop
@@ -35,7 +35,7 @@ is-open-requires c κs = handing-in _ _ _ _ _ _ _ _ _ _ _ _ (c .before .before .
 
 -- src/chain.rt:79:13
 slice-write-table : tie.Need-slice-write-table Inv-loop μ-loop
-slice-write-table c = c .before .before .before .before .before .before .loop .inv .wakeable .slot
+slice-write-table c = handing-slot _ _ _ _ _ _ _ _ _ _ _ _ (c .before .before .before .before .before .before .loop .inv)
 
 -- src/chain.rt:80:23
 mul-end : tie.Need-mul-end Inv-loop μ-loop
@@ -71,7 +71,7 @@ slice-write-lost c = handing-in _ _ _ _ _ _ _ _ _ _ _ _ (c .before .before .befo
 
 -- src/chain.rt:83:29
 later-requires : tie.Need-later-requires Inv-loop μ-loop
-later-requires c κs = omega (arith, c .before .before .before .before .before .before .before .before .before .before .loop .inv .wakeable .slot, c .before .before .before .before .before .before .before .before .before .before .loop .inv .wakeable .small)
+later-requires c κs = omega (arith, c .before .before .before .before .before .before .before .before .before .before .loop .inv .inside .inside, c .before .before .before .before .before .before .before .before .before .before .loop .inv .small)
 
 -- src/chain.rt:83:17
 mul-ends : tie.Need-mul-ends Inv-loop μ-loop
@@ -103,7 +103,7 @@ cast-at c = omega (arith, c .before .before .slice-known4 .given (getD (c .befor
 
 -- src/chain.rt:86:18
 sub-at : tie.Need-sub-at Inv-loop μ-loop
-sub-at c = handing-slot _ _ _ _ _ _ _ _ _ _ _ _ (c .before .before .before .before .before .before .before .before .before .loop .inv) (c .before .before .before .before .before .before .before .before .loop-test .taken) _ (c .before .before .before .before .is-open .ensures) (c .before .before .before .if1 .taken) (c .if2 .left)
+sub-at c = handing-last _ _ _ _ _ _ _ _ _ _ _ _ (c .before .before .before .before .before .before .before .before .before .loop .inv) (c .before .before .before .before .before .before .before .before .loop-test .taken) _ (c .before .before .before .before .is-open .ensures) (c .before .before .before .if1 .taken) (c .if2 .left)
 
 -- src/chain.rt:87:25
 end-below-requires : tie.Need-end-below-requires Inv-loop μ-loop
@@ -111,7 +111,7 @@ end-below-requires c κs = simp length-set (omega (arith, handing-inside _ _ _ _
 
 -- src/chain.rt:87:25
 cast-ends : tie.Need-cast-ends Inv-loop μ-loop
-cast-ends c = let f = end-small _ _ _ _ (c .end-below .ensures) in let g = handing-inside _ _ _ _ _ _ _ _ _ _ _ _ (c .before .before .before .before .before .before .before .before .before .before .before .loop .inv) (c .before .before .before .before .before .before .before .before .before .before .loop-test .taken) _ (c .before .before .before .before .before .before .is-open .ensures) (c .before .before .before .before .before .if1 .taken) (c .before .before .if2 .left) in omega (arith, c .before .before .before .before .before .before .before .before .before .before .before .loop .inv .wakeable .small)
+cast-ends c = let f = end-small _ _ _ _ (c .end-below .ensures) in let g = handing-inside _ _ _ _ _ _ _ _ _ _ _ _ (c .before .before .before .before .before .before .before .before .before .before .before .loop .inv) (c .before .before .before .before .before .before .before .before .before .before .loop-test .taken) _ (c .before .before .before .before .before .before .is-open .ensures) (c .before .before .before .before .before .if1 .taken) (c .before .before .if2 .left) in omega (arith, c .before .before .before .before .before .before .before .before .before .before .before .loop .inv .small, c .before .before .before .before .before .before .before .before .before .before .before .loop .inv .inside .table-long)
 
 -- src/chain.rt:87:13
 mul-ends-2 : tie.Need-mul-ends-2 Inv-loop μ-loop

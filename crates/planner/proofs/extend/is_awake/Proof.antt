@@ -13,11 +13,11 @@ shared-slice-read-result c = search needs
 
 -- src/extend.rt:23:9
 returns : tie.Need-returns
-returns c = sym (awake-of _ _ (c .before .if1 .taken))
+returns c = sym (awake-of (c .before .before .args .table .now) (c .before .before .args .t) (c .before .if1 .taken))
 
 -- src/extend.rt:19:1
 returns-2 : tie.Need-returns-2
-returns-2 c = asleep-past _ _ (c .if1 .left)
+returns-2 c = asleep-past (c .before .args .table .now) (c .before .args .t) (c .if1 .left)
 
 pub is-awake-spec : {M : Type 1} → statement M
 is-awake-spec = tie.close (tie.spec shared-slice-read-result returns returns-2)
