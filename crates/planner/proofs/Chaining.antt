@@ -58,7 +58,7 @@ module _ (releases deadlines order lost ends : List ℕ) (x : ℕ) where
           record { readable = a .readable; rest = test-on releases deadlines order lost ends _ (length releases) k at _ l refl (sym e ∙ o) (omega arith) (a .rest) }
 
     pub asked-end : length releases ≤ k → false ≡ gains releases deadlines order lost ends (length releases) 0 x
-    asked-end l = sym (test-end releases deadlines order lost ends _ (length releases) k at 0 l (a .rest))
+    asked-end l = sym (test-end releases deadlines order lost ends _ (length releases) k at l (a .rest))
 
 -- the update has come to rank k and slot at
 pub record Handing (releases deadlines order lost₀ ends₀ table₀ : List ℕ) (x : ℕ) (lost ends table : List ℕ) (at k : ℕ) : Type 0 where
@@ -92,7 +92,7 @@ module _ (releases deadlines order lost₀ ends₀ table₀ : List ℕ) (x : ℕ
 
     pub handing-end : length releases ≤ k → Booked (applied releases deadlines order (length releases) 0 x table₀ lost₀ ends₀) table lost ends
     handing-end l =
-        booked table lost ends (apply-end releases deadlines order table lost ends _ (length releases) k at 0 l (h .rest))
+        booked table lost ends (apply-end releases deadlines order table lost ends _ (length releases) k at l (h .rest))
 
     module _ (l : k < length releases) where
       pub handing-in : InLists (jobAt order k) releases deadlines lost ends
