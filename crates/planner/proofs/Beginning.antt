@@ -64,9 +64,9 @@ module _ (J : Jobs) (order lost ends table : List ℕ) (g : Beginning J order lo
       kept =
           rw ran
           (kept-start J (omega (arith, g .extendable .passes .few)) (awakeOf table) lost′ ends′ (begin-room .1)
-            (omega (arith, g .extendable .passes .few, same, ap length (g .blank), length-replicate {A = ℕ} 64 0))
-            (λ j l. ap (λ (L : State). L j) over)
-            (λ j l. last .each j (omega (arith, g .extendable .passes .few)) ∙ ap (endOf j) ran))
+          (omega (arith, g .extendable .passes .few, same, ap length (g .blank), length-replicate {A = ℕ} 64 0))
+          (λ j l. ap (λ (L : State). L j) over)
+          (λ j l. last .each j (omega (arith, g .extendable .passes .few)) ∙ ap (endOf j) ran))
 
       missing : workable J (awakeOf table) + short ≡ totalVolume J
       missing = rw sum (kept-volume (g .extendable .passes) set-long kept)
@@ -75,9 +75,13 @@ module _ (J : Jobs) (order lost ends table : List ℕ) (g : Beginning J order lo
       in-all =
           let p = g .extendable .passes in
           let least = ap (workable J) (g .extendable .set-is) in
-          omega (arith, missing, least,
+          omega (
+            arith,
+            missing,
+            least,
             woken-count J (λ S n k v. some-slot-wakes J S p (g .extendable .free) k n v) (leastSkeleton J) (least-length J p) (least-is-skeleton J p)
-            (workable-at-most-total J (leastSkeleton J) p (least-length J p)))
+                (workable-at-most-total J (leastSkeleton J) p (least-length J p)),
+          )
 
       begun : Extending J (awakeOf table) order lost′ ends′ table′ short 0 0
       unfolding extended woken

@@ -79,7 +79,7 @@ module _ (J : Jobs) (S : List Bool) (order lost ends table : List ℕ) (short ad
   wanted t l =
       by-bool (awake S t) (λ a. rw a)
       (λ a. ap (λ (b : Bool). not (awake S t) && touches S t && b)
-        (sym (chain-tests (e .passes) (e .long) (e .ranks) (e .kept) l a)))
+      (sym (chain-tests (e .passes) (e .long) (e .ranks) (e .kept) l a)))
 
   pub growing-wakeable : 0 < short → Wakeable (J .releases) (J .deadlines) order lost ends table cursor
   growing-wakeable l =
