@@ -25,7 +25,7 @@ use Rattle.planner.specs.Runs.{Units, Runnable, RunDone}
 use Rattle.planner.specs.Extending.{Extendable, Beginning, EndsOf, Extending}
 use Rattle.planner.proofs.Filling.{ranks-of}
 
-module _ (J : Jobs) (order lost ends table : List ℕ) (g : Beginning J order lost ends table) where
+module _ {J : Jobs} {order lost ends table : List ℕ} (g : Beginning J order lost ends table) where
   set-long : length (awakeOf table) ≡ J .horizon
   set-long = ap length (g .extendable .set-is) ∙ least-length J (g .extendable .passes)
 
@@ -39,7 +39,7 @@ module _ (J : Jobs) (order lost ends table : List ℕ) (g : Beginning J order lo
         ranks = ranks-of J order lost (g .extendable .passes .few) (omega (arith, g .extendable .passes .few, g .units .long)) (g .extendable .ranks);
       }
 
-  module _ (lost′ table′ : List ℕ) (done : RunDone (spans J) lost table lost′ table′) where
+  module _ {lost′ table′ : List ℕ} (done : RunDone (spans J) lost table lost′ table′) where
     ran : table′ ≡ runBytes J (awake (awakeOf table))
     ran =
         done .table-is
@@ -59,7 +59,7 @@ module _ (J : Jobs) (order lost ends table : List ℕ) (g : Beginning J order lo
     pub begin-room : (count J ≤ 64) × (count J ≤ length lost′)
     begin-room = (g .extendable .passes .few, omega (arith, g .extendable .passes .few, done .left-long, g .units .long))
 
-    module _ (ends′ : List ℕ) (same : length ends′ ≡ length ends) (last : EndsOf table′ ends′) (short : ℕ) (sum : short ≡ sumBelow (count J) (stateOf lost′)) where
+    module _ {ends′ : List ℕ} (same : length ends′ ≡ length ends) (last : EndsOf table′ ends′) (short : ℕ) (sum : short ≡ sumBelow (count J) (stateOf lost′)) where
       kept : Kept J (awakeOf table) table′ lost′ ends′
       kept =
           rw ran

@@ -49,8 +49,8 @@ no-turn : (S : List Bool) → wakeAll S [] ≡ S
 unfolding wakeAll
 no-turn S = refl
 
-module _ (J : Jobs) (S : List Bool) (order lost ends table : List ℕ) (short added cursor : ℕ) (e : Extending J S order lost ends table short added cursor) where
-  pub table-long : length table ≡ J .horizon
+module _ {J : Jobs} {S : List Bool} {order lost ends table : List ℕ} {short added cursor : ℕ} (e : Extending J S order lost ends table short added cursor) where
+  table-long : length table ≡ J .horizon
   table-long = kept-long (e .kept)
 
   pub growing-readable : Readable (J .releases) (J .deadlines) order lost ends
@@ -72,6 +72,9 @@ module _ (J : Jobs) (S : List Bool) (order lost ends table : List ℕ) (short ad
       go : (x : ℕ) → x < J .horizon → wakes J S x ≡ true → Dec (x < cursor) → cursor < length table
       go x m w (yes b) = true-not-false (wakes J S x) w (e .none-before x b)
       go x m w (no b) = omega (arith, table-long)
+
+  pub growing-small : 0 < short → cursor < 4096
+  growing-small l = omega (arith, growing-inside l, table-long, e .passes .high)
 
   -- what is asked of a slot is whether step 3 may wake it
   wanted : (t : ℕ) → t < J .horizon → not (awake S t) && touches S t && gains (J .releases) (J .deadlines) order lost ends (count J) 0 t ≡ wakes J S t
@@ -171,8 +174,8 @@ module _ (J : Jobs) (S : List Bool) (order lost ends table : List ℕ) (short ad
             })
 
 -- no turn is left
-pub growing-end : (J : Jobs) (order lost ends table : List ℕ) (short added cursor : ℕ) → Extending J (awakeOf table) order lost ends table short added cursor → short ≤ 0 → Extended J table added
-growing-end J order lost ends table short added cursor e l =
+pub growing-end : {J : Jobs} {order lost ends table : List ℕ} {short added cursor : ℕ} → Extending J (awakeOf table) order lost ends table short added cursor → short ≤ 0 → Extended J table added
+growing-end {J} {order} {lost} {ends} {table} {short} {added} {cursor} e l =
     record {
       set-is = sym (e .whole ∙ ap (wakeAll (awakeOf table)) (none-left (wokenIn (e .turns) J (awakeOf table)) (omega (arith, e .still))) ∙ all-of-none);
       added-is = omega (arith, e .in-all);

@@ -1,6 +1,6 @@
 -- `planner::chain::wake` meets its contract: as the test, and each job passed leaves its slot to the next.
-use Rattle.planner.proofs.Chaining.{Handing, end-small, handing-start, handing-end, handing-in, handing-closed, handing-lost, handing-slot, handing-last, handing-inside, handing-on}
-use lib.ListN.{length, getD, length-set}
+use Rattle.planner.proofs.Chaining.{Handing, handing-start, handing-end, handing-in, handing-closed, handing-lost, handing-slot, handing-last, handing-below, handing-fits, handing-on}
+use lib.ListN.{length, getD}
 use Prim.Native.Nat.{_-_}
 use native.Mathlib.Omega.{arith}
 use borrow.Author.Needs.{needs}
@@ -8,13 +8,14 @@ use Rattle.planner.proofs.chain.wake.Statement.{statement}
 use Rattle.planner.proofs.chain.wake.Tie as tie
 
 abbrev Inv-loop : tie.InvT-loop
-Inv-loop x releases deadlines order lost₀ ends₀ table₀ at₀ k₀ lost ends table at k = Handing releases deadlines order lost₀ ends₀ table₀ x lost ends table at k
+Inv-loop x releases deadlines order lost₀ ends₀ table₀ at₀ k₀ lost ends table at k =
+    Handing releases deadlines order lost₀ ends₀ table₀ x lost ends table at k
 
 abbrev μ-loop : tie.MeasureT-loop
 μ-loop x releases deadlines order lost₀ ends₀ table₀ at₀ k₀ lost ends table at k = length releases - k
 
 loop-holds : tie.Need-loop-holds Inv-loop μ-loop
-loop-holds c = handing-start _ _ _ _ _ _ _ (c .before .before .before .before .before .before .pre)
+loop-holds c = handing-start (c .before .before .before .before .before .before .pre)
 
 shared-slice-read-byte : tie.Need-shared-slice-read-byte Inv-loop μ-loop
 shared-slice-read-byte c = omega (arith, c .before .before .loop .inv .readable .order-long)
@@ -23,43 +24,64 @@ cast-job : tie.Need-cast-job Inv-loop μ-loop
 cast-job c = omega (arith, c .shared-slice-known4 .given (c .before .before .loop .k))
 
 is-open-requires : tie.Need-is-open-requires Inv-loop μ-loop
-is-open-requires c κs = handing-in _ _ _ _ _ _ _ _ _ _ _ _ (c .before .before .before .before .loop .inv) (c .before .before .before .loop-test .taken)
+is-open-requires c κs =
+    handing-in (c .before .before .before .before .loop .inv) (c .before .before .before .loop-test .taken)
 
 slice-write-table : tie.Need-slice-write-table Inv-loop μ-loop
-slice-write-table c = handing-slot _ _ _ _ _ _ _ _ _ _ _ _ (c .before .before .before .before .before .before .loop .inv)
+slice-write-table c = handing-slot (c .before .before .before .before .before .before .loop .inv)
 
 mul-end : tie.Need-mul-end Inv-loop μ-loop
-mul-end c = search (needs, handing-in _ _ _ _ _ _ _ _ _ _ _ _ (c .before .before .before .before .before .before .loop .inv) (c .before .before .before .before .before .loop-test .taken) .in-ends)
+mul-end c =
+    let s = c .before .before .before .before .before in
+    search (needs, handing-in (s .before .loop .inv) (s .loop-test .taken) .in-ends)
 
 slice-read-end : tie.Need-slice-read-end Inv-loop μ-loop
-slice-read-end c = handing-in _ _ _ _ _ _ _ _ _ _ _ _ (c .before .before .before .before .before .before .before .loop .inv) (c .before .before .before .before .before .before .loop-test .taken) .in-ends
+slice-read-end c =
+    let s = c .before .before .before .before .before .before in
+    handing-in (s .before .loop .inv) (s .loop-test .taken) .in-ends
 
 mul-if2 : tie.Need-mul-if2 Inv-loop μ-loop
-mul-if2 c = search (needs, handing-in _ _ _ _ _ _ _ _ _ _ _ _ (c .before .before .before .before .before .before .before .loop .inv) (c .before .before .before .before .before .before .loop-test .taken) .in-lost)
+mul-if2 c =
+    let s = c .before .before .before .before .before .before in
+    search (needs, handing-in (s .before .loop .inv) (s .loop-test .taken) .in-lost)
 
 slice-read-if2 : tie.Need-slice-read-if2 Inv-loop μ-loop
-slice-read-if2 c = handing-in _ _ _ _ _ _ _ _ _ _ _ _ (c .before .before .before .before .before .before .before .before .loop .inv) (c .before .before .before .before .before .before .before .loop-test .taken) .in-lost
+slice-read-if2 c =
+    let s = c .before .before .before .before .before .before .before in
+    handing-in (s .before .loop .inv) (s .loop-test .taken) .in-lost
 
 mul-lost : tie.Need-mul-lost Inv-loop μ-loop
-mul-lost c = search (needs, handing-in _ _ _ _ _ _ _ _ _ _ _ _ (c .before .before .before .before .before .before .before .before .before .loop .inv) (c .before .before .before .before .before .before .before .before .loop-test .taken) .in-lost)
+mul-lost c =
+    let s = c .before .before .before .before .before .before .before .before in
+    search (needs, handing-in (s .before .loop .inv) (s .loop-test .taken) .in-lost)
 
 slice-read-lost : tie.Need-slice-read-lost Inv-loop μ-loop
-slice-read-lost c = handing-in _ _ _ _ _ _ _ _ _ _ _ _ (c .before .before .before .before .before .before .before .before .before .before .loop .inv) (c .before .before .before .before .before .before .before .before .before .loop-test .taken) .in-lost
+slice-read-lost c =
+    let s = c .before .before .before .before .before .before .before .before .before in
+    handing-in (s .before .loop .inv) (s .loop-test .taken) .in-lost
 
 sub-lost : tie.Need-sub-lost Inv-loop μ-loop
 sub-lost c = c .before .if2 .taken
 
 slice-write-lost : tie.Need-slice-write-lost Inv-loop μ-loop
-slice-write-lost c = handing-in _ _ _ _ _ _ _ _ _ _ _ _ (c .before .before .before .before .before .before .before .before .before .before .loop .inv) (c .before .before .before .before .before .before .before .before .before .loop-test .taken) .in-lost
+slice-write-lost c =
+    let s = c .before .before .before .before .before .before .before .before .before in
+    handing-in (s .before .loop .inv) (s .loop-test .taken) .in-lost
 
 later-requires : tie.Need-later-requires Inv-loop μ-loop
-later-requires c κs = omega (arith, c .before .before .before .before .before .before .before .before .before .before .loop .inv .inside .inside, c .before .before .before .before .before .before .before .before .before .before .loop .inv .small)
+later-requires c κs =
+    let s = c .before .before .before .before .before .before .before .before .before .before in
+    omega (arith, s .loop .inv .inside .inside, s .loop .inv .small)
 
 mul-ends : tie.Need-mul-ends Inv-loop μ-loop
-mul-ends c = search (needs, handing-in _ _ _ _ _ _ _ _ _ _ _ _ (c .before .before .before .before .before .before .before .before .before .before .before .loop .inv) (c .before .before .before .before .before .before .before .before .before .before .loop-test .taken) .in-ends)
+mul-ends c =
+    let s = c .before .before .before .before .before .before .before .before .before .before in
+    search (needs, handing-in (s .before .loop .inv) (s .loop-test .taken) .in-ends)
 
 slice-write-ends : tie.Need-slice-write-ends Inv-loop μ-loop
-slice-write-ends c = handing-in _ _ _ _ _ _ _ _ _ _ _ _ (c .before .before .before .before .before .before .before .before .before .before .before .loop .inv) (c .before .before .before .before .before .before .before .before .before .before .loop-test .taken) .in-ends
+slice-write-ends c =
+    let s = c .before .before .before .before .before .before .before .before .before .before in
+    handing-in (s .before .loop .inv) (s .loop-test .taken) .in-ends
 
 same-length : tie.Need-same-length Inv-loop μ-loop
 same-length c = search needs
@@ -71,25 +93,49 @@ same-length-3 : tie.Need-same-length-3 Inv-loop μ-loop
 same-length-3 c = search needs
 
 returns : tie.Need-returns Inv-loop μ-loop
-returns c = handing-lost _ _ _ _ _ _ _ _ _ _ _ _ (c .before .before .before .before .before .before .before .before .before .before .before .loop .inv) (c .before .before .before .before .before .before .before .before .before .before .loop-test .taken) _ (c .before .before .before .before .before .before .is-open .ensures) (c .before .before .before .before .before .if1 .taken) (c .before .before .if2 .taken) _ (c .later .ensures)
+returns c =
+    let met = c .before .before in
+    let asked = met .before .before .before in
+    let turn = asked .before .before .before .before .before in
+    handing-lost (turn .before .loop .inv) (turn .loop-test .taken) _ (asked .before .is-open .ensures) (asked .if1 .taken) (met .if2 .taken) _ (c .later .ensures)
 
 cast-at : tie.Need-cast-at Inv-loop μ-loop
-cast-at c = omega (arith, c .before .before .slice-known4 .given (getD (c .before .before .before .before .before .before .before .before .before .before .before .before .before .before .before .before .args .order .now) (c .before .before .before .before .before .before .before .before .before .loop .k) 0))
+cast-at c =
+    let s = c .before .before .before .before .before .before .before .before .before in
+    omega
+    (arith, c .before .before .slice-known4 .given (getD (s .before .before .before .before .before .before .before .args .order .now) (s .loop .k) 0))
 
 sub-at : tie.Need-sub-at Inv-loop μ-loop
-sub-at c = handing-last _ _ _ _ _ _ _ _ _ _ _ _ (c .before .before .before .before .before .before .before .before .before .loop .inv) (c .before .before .before .before .before .before .before .before .loop-test .taken) _ (c .before .before .before .before .is-open .ensures) (c .before .before .before .if1 .taken) (c .if2 .left)
+sub-at c =
+    let met = c in
+    let asked = met .before .before .before in
+    let turn = asked .before .before .before .before .before in
+    handing-last (turn .before .loop .inv) (turn .loop-test .taken) _ (asked .before .is-open .ensures) (asked .if1 .taken) (met .if2 .left)
 
 end-below-requires : tie.Need-end-below-requires Inv-loop μ-loop
-end-below-requires c κs = simp length-set (omega (arith, handing-inside _ _ _ _ _ _ _ _ _ _ _ _ (c .before .before .before .before .before .before .before .before .before .before .loop .inv) (c .before .before .before .before .before .before .before .before .before .loop-test .taken) _ (c .before .before .before .before .before .is-open .ensures) (c .before .before .before .before .if1 .taken) (c .before .if2 .left)))
+end-below-requires c κs =
+    let met = c .before in
+    let asked = met .before .before .before in
+    let turn = asked .before .before .before .before .before in
+    handing-below (turn .before .loop .inv) (turn .loop-test .taken) _ (asked .before .is-open .ensures) (asked .if1 .taken) (met .if2 .left)
 
 cast-ends : tie.Need-cast-ends Inv-loop μ-loop
-cast-ends c = let f = end-small _ _ _ _ (c .end-below .ensures) in let g = handing-inside _ _ _ _ _ _ _ _ _ _ _ _ (c .before .before .before .before .before .before .before .before .before .before .before .loop .inv) (c .before .before .before .before .before .before .before .before .before .before .loop-test .taken) _ (c .before .before .before .before .before .before .is-open .ensures) (c .before .before .before .before .before .if1 .taken) (c .before .before .if2 .left) in omega (arith, c .before .before .before .before .before .before .before .before .before .before .before .loop .inv .small, c .before .before .before .before .before .before .before .before .before .before .before .loop .inv .inside .table-long)
+cast-ends c =
+    let met = c .before .before in
+    let asked = met .before .before .before in
+    let turn = asked .before .before .before .before .before in
+    let fits = handing-fits (turn .before .loop .inv) (turn .loop-test .taken) _ (asked .before .is-open .ensures) (asked .if1 .taken) (met .if2 .left) _ (c .end-below .ensures) in
+    omega arith
 
 mul-ends-2 : tie.Need-mul-ends-2 Inv-loop μ-loop
-mul-ends-2 c = search (needs, handing-in _ _ _ _ _ _ _ _ _ _ _ _ (c .before .before .before .before .before .before .before .before .before .before .before .loop .inv) (c .before .before .before .before .before .before .before .before .before .before .loop-test .taken) .in-ends)
+mul-ends-2 c =
+    let s = c .before .before .before .before .before .before .before .before .before .before in
+    search (needs, handing-in (s .before .loop .inv) (s .loop-test .taken) .in-ends)
 
 slice-write-ends-2 : tie.Need-slice-write-ends-2 Inv-loop μ-loop
-slice-write-ends-2 c = handing-in _ _ _ _ _ _ _ _ _ _ _ _ (c .before .before .before .before .before .before .before .before .before .before .before .loop .inv) (c .before .before .before .before .before .before .before .before .before .before .loop-test .taken) .in-ends
+slice-write-ends-2 c =
+    let s = c .before .before .before .before .before .before .before .before .before .before in
+    handing-in (s .before .loop .inv) (s .loop-test .taken) .in-ends
 
 add-k : tie.Need-add-k Inv-loop μ-loop
 add-k c = search needs
@@ -98,7 +144,11 @@ loop-less : tie.Need-loop-less Inv-loop μ-loop
 loop-less c = search needs
 
 loop-again : tie.Need-loop-again Inv-loop μ-loop
-loop-again c = handing-on _ _ _ _ _ _ _ _ _ _ _ _ (c .before .before .before .before .before .before .before .before .before .before .before .loop .inv) (c .before .before .before .before .before .before .before .before .before .before .loop-test .taken) _ (c .before .before .before .before .before .before .is-open .ensures) (c .before .before .before .before .before .if1 .taken) (c .before .before .if2 .left) _ (c .end-below .ensures)
+loop-again c =
+    let met = c .before .before in
+    let asked = met .before .before .before in
+    let turn = asked .before .before .before .before .before in
+    handing-on (turn .before .loop .inv) (turn .loop-test .taken) _ (asked .before .is-open .ensures) (asked .if1 .taken) (met .if2 .left) _ (c .end-below .ensures)
 
 add-k-2 : tie.Need-add-k-2 Inv-loop μ-loop
 add-k-2 c = search needs
@@ -107,7 +157,9 @@ loop-less-2 : tie.Need-loop-less-2 Inv-loop μ-loop
 loop-less-2 c = search needs
 
 loop-again-2 : tie.Need-loop-again-2 Inv-loop μ-loop
-loop-again-2 c = handing-closed _ _ _ _ _ _ _ _ _ _ _ _ (c .before .before .before .before .before .before .loop .inv) (c .before .before .before .before .before .loop-test .taken) _ (c .before .is-open .ensures) (c .if1 .left)
+loop-again-2 c =
+    let s = c .before .before .before .before .before in
+    handing-closed (s .before .loop .inv) (s .loop-test .taken) _ (c .before .is-open .ensures) (c .if1 .left)
 
 same-length-4 : tie.Need-same-length-4 Inv-loop μ-loop
 same-length-4 c = search needs
@@ -119,7 +171,7 @@ same-length-6 : tie.Need-same-length-6 Inv-loop μ-loop
 same-length-6 c = search needs
 
 returns-2 : tie.Need-returns-2 Inv-loop μ-loop
-returns-2 c = handing-end _ _ _ _ _ _ _ _ _ _ _ _ (c .before .loop .inv) (c .loop-test .left)
+returns-2 c = handing-end (c .before .loop .inv) (c .loop-test .left)
 
 pub wake-spec : {M : Type 1} → statement M
 wake-spec =

@@ -29,13 +29,17 @@ add-result-2 : tie.Need-add-result-2
 add-result-2 c = search needs
 
 returns-3 : tie.Need-returns-3
-returns-3 c = cursor-near _ _ _ _ (c .before .before .before .before .if1 .left) (c .before .before .before .is-awake .ensures) (c .before .before .if2 .left) (c .before .is-near .ensures) (c .if3 .taken)
+returns-3 c =
+    cursor-near _ _ _ _ (c .before .before .before .before .if1 .left) (c .before .before .before .is-awake .ensures)
+    (c .before .before .if2 .left) (c .before .is-near .ensures) (c .if3 .taken)
 
 sub-result : tie.Need-sub-result
 sub-result c = search needs
 
 returns-4 : tie.Need-returns-4
-returns-4 c = cursor-back _ _ _ _ (c .before .before .before .before .if1 .left) (c .before .before .before .is-awake .ensures) (c .before .before .if2 .left) (c .before .is-near .ensures) (c .if3 .left)
+returns-4 c =
+    cursor-back _ _ _ _ (c .before .before .before .before .if1 .left) (c .before .before .before .is-awake .ensures)
+    (c .before .before .if2 .left) (c .before .is-near .ensures) (c .if3 .left)
 
 pub go-on-from-spec : {M : Type 1} → statement M
 go-on-from-spec =

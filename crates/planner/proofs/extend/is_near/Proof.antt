@@ -26,7 +26,9 @@ is-awake-requires-3 : tie.Need-is-awake-requires-3
 is-awake-requires-3 c κs = search needs
 
 returns-3 : tie.Need-returns-3
-returns-3 c = near-behind _ _ _ _ (c .before .before .before .if1 .left) (c .before .before .is-awake2 .ensures) (c .before .if2 .left) (c .is-awake3 .ensures)
+returns-3 c =
+    near-behind _ _ _ _ (c .before .before .before .if1 .left) (c .before .before .is-awake2 .ensures) (c .before .if2 .left)
+    (c .is-awake3 .ensures)
 
 pub is-near-spec : {M : Type 1} → statement M
 is-near-spec =

@@ -17,7 +17,9 @@ loop-holds : tie.Need-loop-holds Inv-loop μ-loop
 loop-holds c = sum-start _ _ (c .pre .0) (c .pre .1)
 
 mul-sum : tie.Need-mul-sum Inv-loop μ-loop
-mul-sum c = let l : c .before .loop .j < length (c .before .before .args .lost .now) = omega (arith, c .before .loop .inv .long, c .loop-test .taken) in search needs
+mul-sum c =
+    let l : c .before .loop .j < length (c .before .before .args .lost .now) = omega
+    (arith, c .before .loop .inv .long, c .loop-test .taken) in search needs
 
 shared-slice-read-sum : tie.Need-shared-slice-read-sum Inv-loop μ-loop
 shared-slice-read-sum c = omega (arith, c .before .before .loop .inv .long)
@@ -26,7 +28,9 @@ cast-sum : tie.Need-cast-sum Inv-loop μ-loop
 cast-sum c = omega (arith, c .shared-slice-known .given (c .before .before .loop .j))
 
 add-sum : tie.Need-add-sum Inv-loop μ-loop
-add-sum c = omega (arith, c .before .before .loop .inv .small, c .before .before .loop .inv .few, c .shared-slice-known .given (c .before .before .loop .j))
+add-sum c =
+    omega
+    (arith, c .before .before .loop .inv .small, c .before .before .loop .inv .few, c .shared-slice-known .given (c .before .before .loop .j))
 
 add-j : tie.Need-add-j Inv-loop μ-loop
 add-j c = search needs
@@ -35,7 +39,9 @@ loop-less : tie.Need-loop-less Inv-loop μ-loop
 loop-less c = search needs
 
 loop-again : tie.Need-loop-again Inv-loop μ-loop
-loop-again c = sum-turn _ _ _ _ (omega (arith, c .shared-slice-known .given (c .before .before .loop .j))) (c .before .loop-test .taken) (c .before .before .loop .inv)
+loop-again c =
+    sum-turn _ _ _ _ (omega (arith, c .shared-slice-known .given (c .before .before .loop .j))) (c .before .loop-test .taken)
+    (c .before .before .loop .inv)
 
 returns : tie.Need-returns Inv-loop μ-loop
 returns c = sum-end _ _ _ _ (c .loop-test .left) (c .before .loop .inv)

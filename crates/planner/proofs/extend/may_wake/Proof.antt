@@ -17,10 +17,14 @@ helps-requires : tie.Need-helps-requires
 helps-requires c κs = search needs
 
 returns-2 : tie.Need-returns-2
-returns-2 c = test-helps _ _ _ _ _ _ (c .before .before .before .before .is-awake .ensures) (c .before .before .before .if1 .left) (c .before .before .is-near .ensures) (c .before .if2 .taken) (c .helps .ensures)
+returns-2 c =
+    test-helps _ _ _ _ _ _ (c .before .before .before .before .is-awake .ensures) (c .before .before .before .if1 .left)
+    (c .before .before .is-near .ensures) (c .before .if2 .taken) (c .helps .ensures)
 
 returns-3 : tie.Need-returns-3
-returns-3 c = test-alone _ _ _ _ _ (c .before .before .before .is-awake .ensures) (c .before .before .if1 .left) (c .before .is-near .ensures) (c .if2 .left)
+returns-3 c =
+    test-alone _ _ _ _ _ (c .before .before .before .is-awake .ensures) (c .before .before .if1 .left) (c .before .is-near .ensures)
+    (c .if2 .left)
 
 pub may-wake-spec : {M : Type 1} → statement M
 may-wake-spec =
