@@ -21,8 +21,8 @@ use Rattle.edf.specs.Chain.Missing.{kept-set, kept-volume}
 use Rattle.skeleton.specs.Rival.{awake-of-length}
 use Rattle.skeleton.specs.Theorems.{least-is-skeleton, least-length}
 use Rattle.skeleton.specs.Waking.Laws.{woken-count}
-use Rattle.planner.specs.Runs.{Units, Runnable, RunDone}
-use Rattle.planner.specs.Extending.{Extendable, Beginning, EndsOf, Extending}
+use Rattle.planner.specs.Runs.{Runnable, RunDone}
+use Rattle.planner.specs.Extending.{Beginning, EndsOf, Extending}
 use Rattle.planner.proofs.Filling.{ranks-of}
 
 module _ {J : Jobs} {order lost ends table : List ℕ} (g : Beginning J order lost ends table) where

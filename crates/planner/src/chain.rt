@@ -1,7 +1,7 @@
 // Whether waking a slot helps, and what it changes, without a second run: the woken slot takes the first job by rank that is open
 // there, and each job that has lost no unit hands on its last slot in turn.
 ghost use mathlib.Core.Path.{_≡_};
-ghost use Prim.Native.Nat.{ℕ, _+_, _≤_, _<_, max};
+ghost use Prim.Native.Nat.{_+_, _≤_, _<_, max};
 ghost use lib.ListN.{length};
 ghost use Rattle.edf.specs.Chain.{endBelow, isOpen, gains, applied};
 ghost use Rattle.planner.specs.Chains.{InLists, Readable, Wakeable, Booked};

@@ -2,7 +2,7 @@
 // and is kept as the run of earliest deadline first over them, with the units that it loses and one more than the last slot of each job.
 ghost use mathlib.Core.Path.{_≡_};
 ghost use mathlib.Core.Bool.{not, _&&_};
-ghost use Prim.Native.Nat.{ℕ, _+_, _≤_, _<_};
+ghost use Prim.Native.Nat.{_+_, _≤_, _<_};
 ghost use lib.ListN.{length, replicate};
 ghost use Rattle.sched.specs.Bounded.{sumBelow};
 ghost use Rattle.sched.specs.Slots.{awake, awakeOf, touches};

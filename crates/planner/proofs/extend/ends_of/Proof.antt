@@ -1,7 +1,7 @@
 -- `planner::extend::ends_of` meets its contract: a later slot of a job overwrites an earlier one.
 use Rattle.planner.proofs.Edges.{EndsTo, ends-start, ends-turn, ends-pass, ends-done}
 use lib.ListN.{length}
-use Prim.Native.Nat.{_-_, _<_}
+use Prim.Native.Nat.{_-_}
 use native.Mathlib.Omega.{arith}
 use borrow.Author.Needs.{needs}
 use Rattle.planner.proofs.extend.ends_of.Statement.{statement}
