@@ -59,7 +59,8 @@ module _ {J : Jobs} {order lost ends table : List ℕ} (g : Beginning J order lo
     pub begin-room : (count J ≤ 64) × (count J ≤ length lost′)
     begin-room = (g .extendable .passes .few, omega (arith, g .extendable .passes .few, done .left-long, g .units .long))
 
-    module _ {ends′ : List ℕ} (same : length ends′ ≡ length ends) (last : EndsOf table′ ends′) (short : ℕ) (sum : short ≡ sumBelow (count J) (stateOf lost′)) where
+    module _ {ends′ : List ℕ} (same : length ends′ ≡ length ends) (last : EndsOf table′ ends′) (short : ℕ)
+        (sum : short ≡ sumBelow (count J) (stateOf lost′)) where
       kept : Kept J (awakeOf table) table′ lost′ ends′
       kept =
           rw ran

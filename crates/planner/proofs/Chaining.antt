@@ -70,12 +70,14 @@ pub record Handing (releases deadlines order lost₀ ends₀ table₀ : List ℕ
   pub rest : applied releases deadlines order (length releases) 0 x table₀ lost₀ ends₀ ≡ applied releases deadlines order (length releases - k) k at table lost ends
 
 module _ {releases deadlines order lost₀ ends₀ table₀ : List ℕ} {x : ℕ} where
-  pub handing-start : Wakeable releases deadlines order lost₀ ends₀ table₀ x → Handing releases deadlines order lost₀ ends₀ table₀ x lost₀ ends₀ table₀ x 0
+  pub handing-start : Wakeable releases deadlines order lost₀ ends₀ table₀ x →
+      Handing releases deadlines order lost₀ ends₀ table₀ x lost₀ ends₀ table₀ x 0
   handing-start w =
       record { readable = w .readable; small = w .small; inside = w .inside; same-lost = refl; same-ends = refl; rest = rw (sub-zero (length releases)) }
 
   module _ {lost ends table : List ℕ} {at k : ℕ} (h : Handing releases deadlines order lost₀ ends₀ table₀ x lost ends table at k) where
-    booked : (table′ lost′ ends′ : List ℕ) → applied releases deadlines order (length releases) 0 x table₀ lost₀ ends₀ ≡ books table′ lost′ ends′ → Booked (applied releases deadlines order (length releases) 0 x table₀ lost₀ ends₀) table′ lost′ ends′
+    booked : (table′ lost′ ends′ : List ℕ) → applied releases deadlines order (length releases) 0 x table₀ lost₀ ends₀ ≡ books table′ lost′ ends′ →
+        Booked (applied releases deadlines order (length releases) 0 x table₀ lost₀ ends₀) table′ lost′ ends′
     booked table′ lost′ ends′ e =
         record {
           table-is = sym (ap (λ (b : Books). b .table) e);
