@@ -14,6 +14,7 @@ pub use rivals::NONE;
 pub use rivals::least_energy;
 pub use small::Small;
 pub use small::digit;
+pub use small::volume;
 
 // A list's outcome: of an overloaded list a and b, of another the rest; what does not apply is 0.
 pub struct Solved {

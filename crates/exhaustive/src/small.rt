@@ -32,6 +32,8 @@ pub fn with(set: u32, t: u32) -> u32 {
 }
 
 // The sum of the volumes.
-pub fn volume(l: Small) -> u32 {
+pub fn volume(l: Small) -> u32
+    ensures { λ r. ⌜ r ≤ 60 ⌝ }
+{
     digit(l.p, 0) + digit(l.p, 1) + digit(l.p, 2) + digit(l.p, 3)
 }
