@@ -18,8 +18,7 @@ use Rattle.sched.specs.declared.Interval.{Interval}
 use Rattle.edf.specs.Overload.{Overfull, Shows}
 use Rattle.edf.specs.Overload.Laws.{shows, shows-one}
 use Rattle.edf.specs.Overload.Ends.{volume-inside, volume-early, volume-late, to-deadline}
-use Rattle.edf.specs.Overload.Order.{fallingBy, AtMost, InOrder}
-use Rattle.edf.specs.Overload.Order.Laws.{in-order}
+use Rattle.edf.specs.Overload.Order.{AtMost, InOrder}
 use Rattle.edf.specs.Overload.Search.{startFor, withEnd, tryEnd, searchFrom, searchOverload, Visited, Starts, ShowsBelow}
 
 -- jobs released before a have no volume inside
@@ -90,7 +89,10 @@ module _ (J : Jobs) (p : Passes J) (b : ℕ) (within : b ≤ J .horizon) where
       go a o (no m) = v .later a (omega arith) o
   start-right (j ∷ js) sum top v = go (leb (deadline J j) b) refl (ltb (b - release J j) (sum + volume J j)) refl (start-right js sum top) (start-right js (sum + volume J j) (release J j))
     where
-      go : (d : Bool) → leb (deadline J j) b ≡ d → (t : Bool) → ltb (b - release J j) (sum + volume J j) ≡ t → (Visited J b js sum top → Starts J b (startFor J b js sum)) → (Visited J b js (sum + volume J j) (release J j) → Starts J b (startFor J b js (sum + volume J j))) → Starts J b (elim d [ false ↦ startFor J b js sum | true ↦ elim t [ true ↦ some (release J j) | false ↦ startFor J b js (sum + volume J j) ] ])
+      go : (d : Bool) → leb (deadline J j) b ≡ d → (t : Bool) → ltb (b - release J j) (sum + volume J j) ≡ t
+          → (Visited J b js sum top → Starts J b (startFor J b js sum))
+          → (Visited J b js (sum + volume J j) (release J j) → Starts J b (startFor J b js (sum + volume J j)))
+          → Starts J b (elim d [ false ↦ startFor J b js sum | true ↦ elim t [ true ↦ some (release J j) | false ↦ startFor J b js (sum + volume J j) ] ])
       go false d t e past next = past (visit-late j js sum top (leb-false (deadline J j) b d) v)
       go true d true e past next = visit-found j js sum top (leb-true (deadline J j) b d) (ltb-true (b - release J j) (sum + volume J j) e) v
       go true d false e past next = next (visit-next j js sum top (leb-true (deadline J j) b d) (ltb-false (b - release J j) (sum + volume J j) e) v)
@@ -163,11 +165,7 @@ module _ (J : Jobs) (p : Passes J) (order : List ℕ) (by-release : InOrder (rel
         greatest = s .0 .1;
       }
 
-  pub search-shown : searchFrom J order (count J) 0 none ≡ shownOverload J
+  pub search-shown : searchOverload J order ≡ shownOverload J
   search-shown =
-      shows-one J (searchFrom J order (count J) 0 none) (shownOverload J)
-      (all-shows (searchFrom J order (count J) 0 none) (from-right (count J) 0 none (omega arith) (λ k l a o. omega arith))) (shows J)
-
-pub search-overload : (J : Jobs) → Passes J → searchOverload J ≡ shownOverload J
-unfolding searchOverload
-search-overload J p = search-shown J p (fallingBy (release J) (count J)) (in-order (release J) (count J))
+      shows-one J (searchOverload J order) (shownOverload J)
+      (all-shows (searchOverload J order) (from-right (count J) 0 none (omega arith) (λ k l a o. omega arith))) (shows J)
