@@ -1,7 +1,7 @@
 // The lists of the comparison, each made from a number.
 use exhaustive::Small;
 use exhaustive::digit;
-ghost use Prim.Native.Nat.{_<_, _≤_};
+ghost use Prim.Native.Nat.{_<_};
 
 // Wake costs 0, 1, 2, 3 and 9.
 fn wake_cost(i: u32) -> u16 {

@@ -1,6 +1,5 @@
 // Document 01's steps on lists of at most four jobs and eight slots, by trying every set of slots and
 // every placement. Test code: it is held against the planner, and shares no function with it.
-ghost use Prim.Native.Nat.{_≤_};
 ghost use Rattle.exhaustive.specs.Bounds.{Bounded};
 
 mod small; // small.rt: a small list packed in numbers

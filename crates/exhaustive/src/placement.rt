@@ -2,7 +2,7 @@
 use crate::small::Small;
 use crate::small::bit;
 use crate::small::digit;
-ghost use Prim.Native.Nat.{_<_, _≤_};
+ghost use Prim.Native.Nat.{_≤_};
 
 // Whether slot t of the set may go to job j, which has `left`'s digit of units left.
 pub fn can_run(l: Small, set: u32, left: u32, j: u32, t: u32) -> bool {

@@ -2,7 +2,7 @@
 use crate::placement::after;
 use crate::placement::can_run;
 use crate::small::Small;
-ghost use Prim.Native.Nat.{_<_, _≤_, _+_, _*_};
+ghost use Prim.Native.Nat.{_≤_, _+_, _*_};
 
 // This much or more stands for no table at all; eight slots cost less.
 pub const NONE: u32 = 1000000;

@@ -2,7 +2,7 @@
 use crate::small::Small;
 use crate::small::bit;
 use crate::small::digit;
-ghost use Prim.Native.Nat.{_<_, _≤_, _*_, _+_};
+ghost use Prim.Native.Nat.{_<_, _≤_};
 
 pub struct Cost {
     pub energy: u32,
