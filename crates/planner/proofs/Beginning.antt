@@ -18,7 +18,7 @@ use Rattle.edf.specs.Theorems.{workable-at-most-total, some-slot-wakes}
 use Rattle.edf.specs.Chain.{Kept, endOf}
 use Rattle.edf.specs.Chain.Keeping.{runBytes, kept-start}
 use Rattle.edf.specs.Chain.Missing.{kept-set, kept-volume}
-use Rattle.skeleton.specs.Rival.{awake-of-length}
+use Rattle.sched.specs.Slots.Laws.{awake-of-length}
 use Rattle.skeleton.specs.Theorems.{least-is-skeleton, least-length}
 use Rattle.skeleton.specs.Waking.Laws.{woken-count}
 use Rattle.planner.specs.Runs.{Runnable, RunDone}

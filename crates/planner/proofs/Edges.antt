@@ -14,7 +14,7 @@ use Rattle.sched.specs.Slots.{awake, awakeOf, touches}
 use Rattle.edf.specs.Search.{stateOf}
 use Rattle.edf.specs.Chain.{endBelow, endOf}
 use Rattle.edf.specs.Chain.Ends.{end-here, end-lower}
-use Rattle.skeleton.specs.Rival.{awake-of-length}
+use Rattle.sched.specs.Slots.Laws.{awake-of-length}
 use Rattle.skeleton.specs.Waking.Cursor.{cursorAfter}
 use Rattle.planner.specs.Extending.{EndsOf}
 

@@ -19,7 +19,7 @@ use Rattle.sched.specs.declared.Figures.{Figures}
 use Rattle.sched.specs.declared.PlanFigures.{PlanFigures}
 use Rattle.edf.specs.Overload.Laws.{shown-none}
 use Rattle.edf.specs.Chain.{RankedJobs}
-use Rattle.skeleton.specs.Rival.{awake-of-length}
+use Rattle.sched.specs.Slots.Laws.{awake-of-length}
 use Rattle.demands.specs.Steps.{extended-length, extended-full, plan-feasible}
 use Rattle.planner.specs.Order.{risingBy, keyOf}
 use Rattle.planner.specs.Order.Ranks.{by-deadline}
@@ -37,7 +37,7 @@ extendable J order lent table f e s =
       passes = f .passes;
       free = shown-none J (f .none-shown);
       ranks = subst (RankedJobs J) (sym (e ∙ ap (risingBy (deadline J)) (f .passes .same-deadlines))) (by-deadline J);
-      set-is = s
+      set-is = s;
     }
 
 pub fillable : (J : Jobs) (order table table′ : List ℕ) (added : ℕ) → Extendable J order table → Extended J table′ added → Fillable J order table′
@@ -46,7 +46,7 @@ fillable J order table table′ added g x =
       passes = g .passes;
       ranks = g .ranks;
       long = sym (awake-of-length table′) ∙ ap length (x .set-is) ∙ extended-length J (g .passes) (g .free);
-      full = ap (workable J) (x .set-is) ∙ extended-full J (g .passes) (g .free)
+      full = ap (workable J) (x .set-is) ∙ extended-full J (g .passes) (g .free);
     }
 
 -- a table of H bytes is short enough to be counted
@@ -60,7 +60,7 @@ stepped J table′ table″ added cost x e c =
     let t : table″ ≡ tableOf J (extended J) = e ∙ ap (tableOf J) (x .set-is) in
     record {
       bytes = t;
-      told = ap (λ (f : Figures). counted f added) (c ∙ ap (tableFigures J) t) ∙ ap (counted (tableFigures J (tableOf J (extended J)))) (x .added-is)
+      told = ap (λ (f : Figures). counted f added) (c ∙ ap (tableFigures J) t) ∙ ap (counted (tableFigures J (tableOf J (extended J)))) (x .added-is);
     }
   where
     counted : Figures → ℕ → PlanFigures

@@ -9,7 +9,7 @@ ghost use Rattle.sched.specs.Slots.{awake, awakeOf, touches};
 ghost use Rattle.edf.specs.Search.{stateOf};
 ghost use Rattle.edf.specs.Chain.{gains};
 ghost use Rattle.skeleton.specs.Waking.Cursor.{cursorAfter};
-ghost use Rattle.planner.specs.Lists.{jobsOf};
+ghost use Rattle.sched.specs.Jobs.{jobsOf};
 ghost use Rattle.planner.specs.Chains.{Readable};
 ghost use Rattle.planner.specs.Extending.{EndsOf, Extendable, Beginning, Extending, Extended};
 use super::chain;

@@ -1,9 +1,8 @@
 // From a list to a table: document 01's steps on lent lists, a module a step.
 ghost use Rattle.sched.specs.Checks.{Passes};
-ghost use Rattle.planner.specs.Lists.{jobsOf};
+ghost use Rattle.sched.specs.Jobs.{jobsOf};
 ghost use Rattle.planner.specs.Extending.{Extendable};
 ghost use Rattle.planner.specs.Promises.{Promise, Free, Stepped};
-
 use overload::Shown;
 use sched::Checked;
 use sched::Outcome;
@@ -18,7 +17,15 @@ mod extend; // extend.rt: step 3
 mod serving; // serving.rt: runs of earliest deadline first, step 4 among them
 
 // Steps 3 to 5, with the jobs by rank.
-fn work(h: u16, q: u16, releases: &[u16], deadlines: &[u16], volumes: &[u16], order: &[u8], table: &mut [u8]) -> PlanFigures
+fn work(
+    h: u16,
+    q: u16,
+    releases: &[u16],
+    deadlines: &[u16],
+    volumes: &[u16],
+    order: &[u8],
+    table: &mut [u8],
+) -> PlanFigures
     requires { ⌜ Extendable (jobsOf h q (now releases) (now deadlines) (now volumes)) (now order) (now table) ⌝ }
     ensures { λ r. ⌜ Stepped (jobsOf h q (now (releases .entry)) (now (deadlines .entry)) (now (volumes .entry))) r (now (table .exit)) ⌝ }
 {
@@ -34,7 +41,14 @@ fn work(h: u16, q: u16, releases: &[u16], deadlines: &[u16], volumes: &[u16], or
 }
 
 // Steps 2 to 5 on a table of just H bytes, for a list that passes the checks and has no overloaded interval.
-fn steps(h: u16, q: u16, releases: &[u16], deadlines: &[u16], volumes: &[u16], table: &mut [u8]) -> PlanFigures
+fn steps(
+    h: u16,
+    q: u16,
+    releases: &[u16],
+    deadlines: &[u16],
+    volumes: &[u16],
+    table: &mut [u8],
+) -> PlanFigures
     requires { ⌜ Free (jobsOf h q (now releases) (now deadlines) (now volumes)) (now table) ⌝ }
     ensures { λ r. ⌜ Stepped (jobsOf h q (now (releases .entry)) (now (deadlines .entry)) (now (volumes .entry))) r (now (table .exit)) ⌝ }
 {
@@ -46,7 +60,14 @@ fn steps(h: u16, q: u16, releases: &[u16], deadlines: &[u16], volumes: &[u16], t
 }
 
 // What is left to do for a list that has passed its checks.
-fn plan_passed(h: u16, q: u16, releases: &[u16], deadlines: &[u16], volumes: &[u16], table: &mut [u8]) -> Outcome
+fn plan_passed(
+    h: u16,
+    q: u16,
+    releases: &[u16],
+    deadlines: &[u16],
+    volumes: &[u16],
+    table: &mut [u8],
+) -> Outcome
     requires { ⌜ Passes (jobsOf h q (now releases) (now deadlines) (now volumes)) ⌝ }
     ensures { λ r. ⌜ Promise (jobsOf h q (now (releases .entry)) (now (deadlines .entry)) (now (volumes .entry))) (now (table .entry)) r (now (table .exit)) ⌝ }
 {
@@ -56,12 +77,26 @@ fn plan_passed(h: u16, q: u16, releases: &[u16], deadlines: &[u16], volumes: &[u
     }
     match overload::find(h, q, releases, deadlines, volumes) {
         Shown::At(i) => Outcome::Overloaded(i),
-        Shown::Nothing => Outcome::Planned(steps(h, q, releases, deadlines, volumes, &mut table[..end])),
+        Shown::Nothing => Outcome::Planned(steps(
+            h,
+            q,
+            releases,
+            deadlines,
+            volumes,
+            &mut table[..end],
+        )),
     }
 }
 
 // The plan of a list, to the first h bytes of the table; a refusal or an overload leaves the table as it is.
-pub fn plan(h: u16, q: u16, releases: &[u16], deadlines: &[u16], volumes: &[u16], table: &mut [u8]) -> Outcome
+pub fn plan(
+    h: u16,
+    q: u16,
+    releases: &[u16],
+    deadlines: &[u16],
+    volumes: &[u16],
+    table: &mut [u8],
+) -> Outcome
     ensures { λ r. ⌜ Promise (jobsOf h q (now (releases .entry)) (now (deadlines .entry)) (now (volumes .entry))) (now (table .entry)) r (now (table .exit)) ⌝ }
 {
     match sched::check_list(h, releases, deadlines, volumes) {

@@ -35,7 +35,7 @@ steps-requires c κs =
     record {
       passes = c .before .before .before .before .before .before .before .before .before .pre;
       none-shown = sym (c .before .before .before .find .ensures) ∙ ap shownOf (c .before .enum-told .given .1);
-      long = length-take-le _ _ (c .before .before .before .before .if1 .left)
+      long = length-take-le _ _ (c .before .before .before .before .if1 .left);
     }
 
 returns-2 : tie.Need-returns-2

@@ -4,7 +4,7 @@ use mathlib.Core.Path.{refl, sym, subst}
 use mathlib.Core.List.{List}
 use lib.ListN.{length}
 use denote.Ref.{now}
-use Rattle.planner.specs.Lists.{jobsOf}
+use Rattle.sched.specs.Jobs.{jobsOf}
 use Rattle.planner.proofs.Stepping.{fillable, countable, stepped}
 use borrow.Author.Needs.{needs}
 use Rattle.planner.proofs.work.Statement.{statement}

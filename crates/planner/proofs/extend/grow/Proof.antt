@@ -2,7 +2,7 @@
 -- ends inside the table, at the slot that step 3 wakes next.
 use Rattle.planner.proofs.Growing.{Grown, growing-readable, growing-inside, growing-small, growing-wakeable, growing-skip, growing-turn, growing-end}
 use Rattle.planner.specs.Extending.{Extending}
-use Rattle.planner.specs.Lists.{jobsOf}
+use Rattle.sched.specs.Jobs.{jobsOf}
 use Rattle.sched.specs.Slots.{awakeOf}
 use mathlib.Core.Path.{refl, _∙_}
 use lib.ListN.{length}

@@ -1,6 +1,6 @@
 -- `planner::extend::is_awake` meets its contract: slots past the table sleep.
 use Rattle.planner.proofs.Edges.{asleep-past}
-use Rattle.skeleton.specs.Rival.{awake-of}
+use Rattle.sched.specs.Slots.Laws.{awake-of}
 use mathlib.Core.Path.{sym}
 use borrow.Author.Needs.{needs}
 use Rattle.planner.proofs.extend.is_awake.Statement.{statement}
