@@ -1,0 +1,105 @@
+-- 01, "Job list bytes": numbers of two bytes, map bytes and the fields behind them, and the one spelling of a list.
+use Prim.Native.Nat.{ℕ, _+_, _*_, _/_, _%_}
+use mathlib.Core.Bool.{Bool, true, false, not}
+use mathlib.Core.List.{List, [], _∷_, _++_}
+use lib.ListN.{length, getD, drop}
+use lib.Dec.{eqb}
+use Rattle.sched.specs.Jobs.{Jobs, count}
+
+-- "two bytes each, low byte first"
+abbrev pub spelled : ℕ → List ℕ
+spelled x = x % 256 ∷ x / 256 ∷ []
+
+-- the number whose two bytes a list starts with
+abbrev pub word : List ℕ → ℕ
+word bs = getD bs 0 0 + 256 * getD bs 1 0
+
+-- The header: "H, then q, two bytes each, low byte first, then the number of jobs"
+abbrev pub headerLength : ℕ
+headerLength = 5
+
+abbrev pub headerHorizon : List ℕ → ℕ
+headerHorizon bs = word bs
+
+abbrev pub headerWake : List ℕ → ℕ
+headerWake bs = word (drop 2 bs)
+
+abbrev pub headerCount : List ℕ → ℕ
+headerCount bs = getD bs 4 0
+
+-- "An absent release is 0, an absent deadline is H, an absent volume is 1."
+abbrev pub absentRelease : ℕ
+absentRelease = 0
+
+abbrev pub absentDeadline : ℕ → ℕ
+absentDeadline h = h
+
+abbrev pub absentVolume : ℕ
+absentVolume = 1
+
+-- A map byte: "bit 0 release, bit 1 deadline, bit 2 volume"
+abbrev pub hasRelease : ℕ → Bool
+hasRelease m = eqb (m % 2) 1
+
+abbrev pub hasDeadline : ℕ → Bool
+hasDeadline m = eqb (m / 2 % 2) 1
+
+abbrev pub hasVolume : ℕ → Bool
+hasVolume m = eqb (m / 4 % 2) 1
+
+-- the map byte in which just these bits stand
+abbrev pub bit : Bool → ℕ
+bit true = 1
+bit false = 0
+
+abbrev pub mapByte : Bool → Bool → Bool → ℕ
+mapByte r d p = bit r + 2 * bit d + 4 * bit p
+
+-- Where the fields of an entry lie, counted from its map byte: "in that order, only the fields whose bit stands"
+abbrev pub width : Bool → ℕ
+width true = 2
+width false = 0
+
+abbrev pub releaseAt : ℕ
+releaseAt = 1
+
+abbrev pub deadlineAt : ℕ → ℕ
+deadlineAt m = releaseAt + width (hasRelease m)
+
+abbrev pub volumeAt : ℕ → ℕ
+volumeAt m = deadlineAt m + width (hasDeadline m)
+
+-- the length of an entry, by its map byte: 1 to 7
+abbrev pub entryLength : ℕ → ℕ
+entryLength m = volumeAt m + width (hasVolume m)
+
+-- The entry of a job
+
+-- a field stands unless it has its absent value
+abbrev pub stands : ℕ → ℕ → Bool
+stands absent x = not (eqb x absent)
+
+abbrev pub bytesIf : Bool → ℕ → List ℕ
+bytesIf true x = spelled x
+bytesIf false x = []
+
+unfoldable pub entryBytes : ℕ → ℕ → ℕ → ℕ → List ℕ
+entryBytes h r d p =
+    let a = stands absentRelease r in
+    let b = stands (absentDeadline h) d in
+    let c = stands absentVolume p in
+    mapByte a b c ∷ bytesIf a r ++ (bytesIf b d ++ bytesIf c p)
+
+-- the entries of the jobs, in list order
+unfoldable pub entriesBytes : ℕ → List ℕ → List ℕ → List ℕ → List ℕ
+entriesBytes h [] ds ps = []
+entriesBytes h (r ∷ rs) [] ps = []
+entriesBytes h (r ∷ rs) (d ∷ ds) [] = []
+entriesBytes h (r ∷ rs) (d ∷ ds) (p ∷ ps) = entryBytes h r d p ++ entriesBytes h rs ds ps
+
+abbrev pub header : Jobs → List ℕ
+header J = spelled (J .horizon) ++ (spelled (J .wake) ++ (count J ∷ []))
+
+-- the spelling of a list
+unfoldable pub spelling : Jobs → List ℕ
+spelling J = header J ++ entriesBytes (J .horizon) (J .releases) (J .deadlines) (J .volumes)

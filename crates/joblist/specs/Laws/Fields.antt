@@ -1,0 +1,99 @@
+-- Fields and map bytes, written and read back, and read and written again.
+use Prim.Native.Nat.{ℕ, zero, suc, _+_, _*_, _/_, _%_, _≤_, _<_}
+use mathlib.Core.Path.{_≡_, refl, ap, sym, _∙_}
+use mathlib.Core.Bool.{Bool, true, false, not}
+use mathlib.Core.List.{List, [], _∷_, _++_}
+use native.Mathlib.Omega.{arith}
+use borrow.Author.Tests.{eq-eqb, eqb-true}
+use lib.ListN.{length, getD, drop}
+use lib.Dec.{eqb}
+use Rattle.joblist.specs.Bytes.{spelled, word, hasRelease, hasDeadline, hasVolume, mapByte, width, deadlineAt, volumeAt, entryLength, stands, bytesIf}
+use Rattle.joblist.specs.Reading.{valueIf, redundant}
+
+-- each entry of a list of bytes is below 256
+abbrev pub AreBytes : List ℕ → Type 0
+AreBytes bs = (i : ℕ) → getD bs i 0 < 256
+
+pub word-spelled : (x : ℕ) → x % 256 + 256 * (x / 256) ≡ x
+word-spelled x = omega arith
+
+pub spelled-word : (x y : ℕ) → x < 256 → spelled (x + 256 * y) ≡ x ∷ y ∷ []
+spelled-word x y l =
+    let a : (x + 256 * y) % 256 ≡ x = omega arith in
+    let b : (x + 256 * y) / 256 ≡ y = omega arith in
+    rw (a, b)
+
+-- Written and read back
+
+-- an entry with just these bits, and what follows it
+abbrev pub layout : Bool → Bool → Bool → ℕ → ℕ → ℕ → List ℕ → List ℕ
+layout a b c r d p rest = mapByte a b c ∷ bytesIf a r ++ (bytesIf b d ++ (bytesIf c p ++ rest))
+
+-- its bits are those, and each field lies where the map byte says
+pub record LayoutRead (a b c : Bool) (r d p : ℕ) (rest : List ℕ) : Type 0 where
+  pub release : hasRelease (mapByte a b c) ≡ a
+  pub deadline : hasDeadline (mapByte a b c) ≡ b
+  pub volume : hasVolume (mapByte a b c) ≡ c
+  pub known : mapByte a b c < 8
+  pub second : drop (deadlineAt (mapByte a b c)) (layout a b c r d p rest) ≡ bytesIf b d ++ (bytesIf c p ++ rest)
+  pub third : drop (volumeAt (mapByte a b c)) (layout a b c r d p rest) ≡ bytesIf c p ++ rest
+  pub last : drop (entryLength (mapByte a b c)) (layout a b c r d p rest) ≡ rest
+  pub whole : entryLength (mapByte a b c) ≤ length (layout a b c r d p rest)
+
+pub layout-read : (a b c : Bool) (r d p : ℕ) (rest : List ℕ) → LayoutRead a b c r d p rest
+layout-read false false false r d p rest =
+    record { release = refl; deadline = refl; volume = refl; known = omega arith; second = refl; third = refl; last = refl; whole = omega arith }
+layout-read false false true r d p rest =
+    record { release = refl; deadline = refl; volume = refl; known = omega arith; second = refl; third = refl; last = refl; whole = omega arith }
+layout-read false true false r d p rest =
+    record { release = refl; deadline = refl; volume = refl; known = omega arith; second = refl; third = refl; last = refl; whole = omega arith }
+layout-read false true true r d p rest =
+    record { release = refl; deadline = refl; volume = refl; known = omega arith; second = refl; third = refl; last = refl; whole = omega arith }
+layout-read true false false r d p rest =
+    record { release = refl; deadline = refl; volume = refl; known = omega arith; second = refl; third = refl; last = refl; whole = omega arith }
+layout-read true false true r d p rest =
+    record { release = refl; deadline = refl; volume = refl; known = omega arith; second = refl; third = refl; last = refl; whole = omega arith }
+layout-read true true false r d p rest =
+    record { release = refl; deadline = refl; volume = refl; known = omega arith; second = refl; third = refl; last = refl; whole = omega arith }
+layout-read true true true r d p rest =
+    record { release = refl; deadline = refl; volume = refl; known = omega arith; second = refl; third = refl; last = refl; whole = omega arith }
+
+-- a field that stands just where it has another value than its absent one
+pub value-back : (absent x : ℕ) (rest : List ℕ) → valueIf (stands absent x) absent (bytesIf (stands absent x) x ++ rest) ≡ x
+value-back absent x rest = go (eqb x absent) refl
+  where
+    go : (t : Bool) → eqb x absent ≡ t → valueIf (stands absent x) absent (bytesIf (stands absent x) x ++ rest) ≡ x
+    go true e = rw e (sym (eqb-true x absent e))
+    go false e = rw e (word-spelled x)
+
+pub field-fresh : (absent x : ℕ) (rest : List ℕ) → redundant (stands absent x) absent (bytesIf (stands absent x) x ++ rest) ≡ false
+field-fresh absent x rest = go (eqb x absent) refl
+  where
+    go : (t : Bool) → eqb x absent ≡ t → redundant (stands absent x) absent (bytesIf (stands absent x) x ++ rest) ≡ false
+    go true e = rw e
+    go false e = rw (e, word-spelled x, e)
+
+-- Read and written again
+
+pub bits-again : (m : ℕ) → m < 8 → mapByte (hasRelease m) (hasDeadline m) (hasVolume m) ≡ m
+bits-again zero l = refl
+bits-again (suc zero) l = refl
+bits-again (suc (suc zero)) l = refl
+bits-again (suc (suc (suc zero))) l = refl
+bits-again (suc (suc (suc (suc zero)))) l = refl
+bits-again (suc (suc (suc (suc (suc zero))))) l = refl
+bits-again (suc (suc (suc (suc (suc (suc zero)))))) l = refl
+bits-again (suc (suc (suc (suc (suc (suc (suc zero))))))) l = refl
+bits-again (suc (suc (suc (suc (suc (suc (suc (suc m)))))))) l = absurd (omega arith)
+
+pub record Again (b : Bool) (absent : ℕ) (bs : List ℕ) : Type 0 where
+  pub stands-again : stands absent (valueIf b absent bs) ≡ b
+  pub bytes-again : bytesIf b (valueIf b absent bs) ++ drop (width b) bs ≡ bs
+
+pub field-again : (b : Bool) (absent : ℕ) (bs : List ℕ) → width b ≤ length bs → AreBytes bs → redundant b absent bs ≡ false → Again b absent bs
+field-again false absent bs w small e =
+    record { stands-again = rw (eq-eqb absent absent refl); bytes-again = refl }
+field-again true absent [] w small e = absurd (omega arith)
+field-again true absent (x ∷ []) w small e = absurd (omega arith)
+field-again true absent (x ∷ y ∷ bs) w small e =
+    record { stands-again = ap not e; bytes-again = ap (λ (l : List ℕ). l ++ bs) (spelled-word x y (small 0)) }

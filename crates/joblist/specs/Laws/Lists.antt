@@ -1,0 +1,103 @@
+-- A whole list, header and entries, written and read back, and read and written again.
+use Prim.Native.Nat.{ℕ, suc, _+_, _*_, _≤_, _<_}
+use mathlib.Core.Path.{_≡_, refl, ap, sym, _∙_}
+use mathlib.Core.List.{List, [], _∷_, _++_}
+use native.Mathlib.Omega.{arith}
+use lib.ListN.{length, drop}
+use Rattle.sched.specs.Jobs.{Jobs, count}
+use Rattle.sched.specs.Checks.{Passes}
+use Rattle.joblist.specs.Bytes.{headerLength, headerHorizon, headerWake, headerCount, spelled, entriesBytes, spelling}
+use Rattle.joblist.specs.Reading.{releaseOf, deadlineOf, volumeOf, column, listOf}
+use Rattle.joblist.specs.Laws.Column.{column-length}
+use Rattle.joblist.specs.Laws.Input.{GoodHeader, Room, GoodInput}
+use Rattle.joblist.specs.Laws.Fields.{AreBytes, word-spelled, spelled-word}
+use Rattle.joblist.specs.Laws.RoundTrip.{are-bytes-drop, EntriesBack, entries-back, EntriesAgain, entries-again}
+
+pub same-list : (J K : Jobs) → J .horizon ≡ K .horizon → J .wake ≡ K .wake → J .releases ≡ K .releases → J .deadlines ≡ K .deadlines → J .volumes ≡ K .volumes → J ≡ K
+same-list J K h q r d p = λ i. record { horizon = h i; wake = q i; releases = r i; deadlines = d i; volumes = p i }
+
+module _ (J : Jobs) where
+  pub horizon-back : headerHorizon (spelling J) ≡ J .horizon
+  unfolding spelling
+  horizon-back = word-spelled (J .horizon)
+
+  pub wake-back : headerWake (spelling J) ≡ J .wake
+  unfolding spelling
+  wake-back = word-spelled (J .wake)
+
+  pub count-back : headerCount (spelling J) ≡ count J
+  unfolding spelling
+  count-back = refl
+
+  rest-back : drop headerLength (spelling J) ≡ entriesBytes (J .horizon) (J .releases) (J .deadlines) (J .volumes)
+  unfolding spelling
+  rest-back = refl
+
+  header-long : headerLength ≤ length (spelling J)
+  unfolding spelling
+  header-long = omega arith
+
+  back : Passes J → EntriesBack (J .horizon) (J .releases) (J .deadlines) (J .volumes)
+  back p = entries-back (J .horizon) (J .releases) (J .deadlines) (J .volumes) (p .same-deadlines) (p .same-volumes) (p .good)
+
+  -- the spelling of a list that passes the list checks passes the reader's
+  pub spelling-good : (r d p : ℕ) → Passes J → Room (count J) r d p → GoodInput (spelling J) r d p
+  spelling-good r d p g room =
+      record {
+        header =
+            record {
+              long = header-long;
+              low = rw horizon-back (g .low);
+              high = rw horizon-back (g .high);
+              few = rw count-back (g .few);
+            };
+        room = rw count-back room;
+        entries = rw (count-back, horizon-back, rest-back) (back g .passed (length (spelling J)) 0 headerLength);
+      }
+
+  pub list-back : Passes J → listOf (spelling J) ≡ J
+  list-back g =
+      same-list (listOf (spelling J)) J horizon-back wake-back
+      (rw (count-back, rest-back) (back g .releases))
+      (rw (horizon-back, count-back, rest-back) (back g .deadlines))
+      (rw (count-back, rest-back) (back g .volumes))
+
+-- Read and written again
+
+header-again : (bytes rest : List ℕ) → AreBytes bytes → headerLength ≤ length bytes → rest ≡ drop headerLength bytes → (spelled (headerHorizon bytes) ++ (spelled (headerWake bytes) ++ (headerCount bytes ∷ []))) ++ rest ≡ bytes
+header-again [] rest small l e = absurd (omega arith)
+header-again (b₀ ∷ []) rest small l e = absurd (omega arith)
+header-again (b₀ ∷ b₁ ∷ []) rest small l e = absurd (omega arith)
+header-again (b₀ ∷ b₁ ∷ b₂ ∷ []) rest small l e = absurd (omega arith)
+header-again (b₀ ∷ b₁ ∷ b₂ ∷ b₃ ∷ []) rest small l e = absurd (omega arith)
+header-again (b₀ ∷ b₁ ∷ b₂ ∷ b₃ ∷ b₄ ∷ bytes) rest small l e =
+    let h = spelled-word b₀ b₁ (small 0) in
+    let q = spelled-word b₂ b₃ (small 2) in
+    ap (λ (x : List ℕ). (x ++ (spelled (b₂ + 256 * b₃) ++ (b₄ ∷ []))) ++ rest) h
+    ∙ ap (λ (x : List ℕ). (b₀ ∷ b₁ ∷ []) ++ ((x ++ (b₄ ∷ [])) ++ rest)) q
+    ∙ ap (λ (x : List ℕ). b₀ ∷ b₁ ∷ b₂ ∷ b₃ ∷ b₄ ∷ x) e
+
+module _ (bytes : List ℕ) (r d p : ℕ) (small : AreBytes bytes) (g : GoodInput bytes r d p) where
+  again : EntriesAgain (headerHorizon bytes) (headerCount bytes) (drop headerLength bytes)
+  again =
+      entries-again (headerCount bytes) (headerHorizon bytes) (length bytes) 0 headerLength (drop headerLength bytes)
+      (are-bytes-drop headerLength bytes small) (g .entries)
+
+  many : (field : List ℕ → ℕ) → length (column field (headerCount bytes) (drop headerLength bytes)) ≡ headerCount bytes
+  many field = column-length field (headerCount bytes) (drop headerLength bytes)
+
+  pub input-again : bytes ≡ spelling (listOf bytes)
+  unfolding spelling
+  input-again =
+      sym (rw (many releaseOf) (header-again bytes _ small (g .header .long) (again .bytes)))
+
+  pub list-passes : Passes (listOf bytes)
+  list-passes =
+      record {
+        low = g .header .low;
+        high = g .header .high;
+        same-deadlines = many (deadlineOf (headerHorizon bytes)) ∙ sym (many releaseOf);
+        same-volumes = many volumeOf ∙ sym (many releaseOf);
+        few = rw (many releaseOf) (g .header .few);
+        good = λ j l. again .good j (rw (many releaseOf) at l);
+      }

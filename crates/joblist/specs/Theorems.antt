@@ -1,0 +1,92 @@
+-- 01, "Job list bytes": "each list has one spelling". The writer's bytes are read back to the same list, and bytes that are read are just
+-- those that the writer gives for what was read. With the promises of `read` and `write` the three hold of the code.
+use Prim.Native.Nat.{ℕ}
+use mathlib.Core.Path.{_≡_, refl, ap, sym, _∙_}
+use mathlib.Core.List.{List, _++_}
+use native.Mathlib.Omega.{arith}
+use lib.ListN.{length, take, drop}
+use lib.Seq.{take-at}
+use Rattle.sched.specs.Jobs.{Jobs, count}
+use Rattle.sched.specs.Checks.{Passes}
+use Rattle.sched.specs.declared.Refusal.{Refusal}
+use Rattle.sched.specs.declared.Checked.{Checked}
+use Rattle.sched.specs.declared.Checked.the-variants.{Passed, Refused as Faulty}
+use Rattle.joblist.specs.Bytes.{headerLength, headerHorizon, headerWake, headerCount, spelling}
+use Rattle.joblist.specs.Reading.{releaseOf, deadlineOf, volumeOf, readCheck, column, listOf, Reading, accepted, reading}
+use Rattle.joblist.specs.Writing.{jobsOf}
+use Rattle.joblist.specs.Laws.Column.{column-length}
+use Rattle.joblist.specs.Laws.Input.{Room, GoodInput, read-passed, read-passes, reading-accepted, reading-refused}
+use Rattle.joblist.specs.Laws.Fields.{AreBytes}
+use Rattle.joblist.specs.Laws.Lists.{same-list, list-back, spelling-good, count-back, input-again, list-passes}
+use Rattle.joblist.specs.declared.ListHeader.{ListHeader}
+use Rattle.joblist.specs.declared.ListRead.{ListRead}
+use Rattle.joblist.specs.declared.ListRead.the-variants.{Read, Refused}
+
+-- the reading that hands over just the list J, past which the lent lists keep their entries
+abbrev pub handsOver : Jobs → List ℕ → List ℕ → List ℕ → Reading
+handsOver J rs ds ps =
+    record {
+      answer = Read (record { h = J .horizon; q = J .wake; count = count J });
+      releases = J .releases ++ drop (count J) rs;
+      deadlines = J .deadlines ++ drop (count J) ds;
+      volumes = J .volumes ++ drop (count J) ps;
+    }
+
+-- the list that a reading hands over under a header
+abbrev pub handed : ListHeader → Reading → Jobs
+handed list x =
+    jobsOf (list .h) (list .q) (take (list .count) (x .releases)) (take (list .count) (x .deadlines)) (take (list .count) (x .volumes))
+
+-- 1. A list that passes the list checks, written, is read back to the same list.
+pub read-after-write : (J : Jobs) (rs ds ps : List ℕ) → Passes J → Room (count J) (length rs) (length ds) (length ps) → reading (spelling J) rs ds ps ≡ handsOver J rs ds ps
+read-after-write J rs ds ps g room =
+    reading-accepted (spelling J) rs ds ps (read-passes (spelling J) (length rs) (length ds) (length ps) (spelling-good J (length rs) (length ds) (length ps) g room))
+    ∙ ap (λ (K : Jobs). over K (headerCount (spelling J))) (list-back J g)
+    ∙ ap (λ (n : ℕ). over J n) (count-back J)
+  where
+    over : Jobs → ℕ → Reading
+    over K n =
+        record {
+          answer = Read (record { h = K .horizon; q = K .wake; count = n });
+          releases = K .releases ++ drop n rs;
+          deadlines = K .deadlines ++ drop n ds;
+          volumes = K .volumes ++ drop n ps;
+        }
+
+-- what an accepted reading hands over is the list that the bytes stand for
+handed-list : (bytes rs ds ps : List ℕ) (list : ListHeader) → readCheck bytes (length rs) (length ds) (length ps) ≡ Passed → reading bytes rs ds ps .answer ≡ Read list → handed list (reading bytes rs ds ps) ≡ listOf bytes
+handed-list bytes rs ds ps list p e =
+    let q = reading-accepted bytes rs ds ps p in
+    let t : accepted bytes rs ds ps .answer ≡ Read list = sym (ap (λ (x : Reading). x .answer) q) ∙ e in
+    let header : list ≡ record { h = headerHorizon bytes; q = headerWake bytes; count = headerCount bytes } = cc in
+    ap (λ (x : Reading). handed list x) q
+    ∙ ap (λ (l : ListHeader). handed l (accepted bytes rs ds ps)) header
+    ∙ same-list (handed (record { h = headerHorizon bytes; q = headerWake bytes; count = headerCount bytes }) (accepted bytes rs ds ps)) (listOf bytes) refl refl
+    (cut releaseOf rs) (cut (deadlineOf (headerHorizon bytes)) ds) (cut volumeOf ps)
+  where
+    cut : (field : List ℕ → ℕ) (xs : List ℕ) → take (headerCount bytes) (column field (headerCount bytes) (drop headerLength bytes) ++ drop (headerCount bytes) xs) ≡ column field (headerCount bytes) (drop headerLength bytes)
+    cut field xs = take-at (column field (headerCount bytes) (drop headerLength bytes)) (drop (headerCount bytes) xs) (headerCount bytes) (column-length field (headerCount bytes) (drop headerLength bytes))
+
+-- 2. Bytes that are read without refusal are the bytes that are written for what was read, and that list passes the list checks.
+pub write-after-read : (bytes rs ds ps : List ℕ) (list : ListHeader) → AreBytes bytes → reading bytes rs ds ps .answer ≡ Read list → (bytes ≡ spelling (handed list (reading bytes rs ds ps))) × Passes (handed list (reading bytes rs ds ps))
+write-after-read bytes rs ds ps list small e =
+    let g = read-passed bytes (length rs) (length ds) (length ps) passed in
+    let same = handed-list bytes rs ds ps list passed e in (
+      input-again bytes (length rs) (length ds) (length ps) small g ∙ ap spelling (sym same),
+      rw same (list-passes bytes (length rs) (length ds) (length ps) small g),
+    )
+  where
+    go : (c : Checked) → readCheck bytes (length rs) (length ds) (length ps) ≡ c → c ≡ Passed
+    go Passed q = refl
+    go (Faulty r) q =
+        let x : Refused r ≡ Read list = sym (ap (λ (x : Reading). x .answer) (reading-refused bytes rs ds ps r q)) ∙ e in
+        let z : _≡_ {A = ℕ} 0 1 = cc in
+        absurd (omega arith)
+
+    passed : readCheck bytes (length rs) (length ds) (length ps) ≡ Passed
+    passed = go (readCheck bytes (length rs) (length ds) (length ps)) refl
+
+-- 3. Each list has one spelling: bytes that are read to the same header and jobs are equal.
+pub one-spelling : (bytes bytes′ rs ds ps rs′ ds′ ps′ : List ℕ) (list list′ : ListHeader) → AreBytes bytes → AreBytes bytes′ → reading bytes rs ds ps .answer ≡ Read list → reading bytes′ rs′ ds′ ps′ .answer ≡ Read list′ → handed list (reading bytes rs ds ps) ≡ handed list′ (reading bytes′ rs′ ds′ ps′) → bytes ≡ bytes′
+one-spelling bytes bytes′ rs ds ps rs′ ds′ ps′ list list′ small small′ e e′ same =
+    write-after-read bytes rs ds ps list small e .0 ∙ ap spelling same ∙ sym (write-after-read bytes′ rs′ ds′ ps′ list′ small′ e′ .0)
