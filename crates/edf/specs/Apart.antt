@@ -1,7 +1,7 @@
 -- Two states one unit apart, at one slot that is awake for both or asleep for both: they stay so, or meet.
 use Prim.Native.Nat.{ℕ, zero, suc, _+_, _≤_, _<_}
-use mathlib.Core.Path.{_≡_, refl, ap, sym, _∙_}
-use mathlib.Core.Bool.{Bool, true, false}
+use mathlib.Core.Path.{_≡_, refl, ap}
+use mathlib.Core.Bool.{Bool}
 use mathlib.Core.Option.{Option, none, some}
 use mathlib.Core.Logic.{_≢_}
 use native.Mathlib.Omega.{arith}
@@ -62,7 +62,8 @@ unfolding vol
 one-more-worth F S zero t k M L o = record { low = omega arith; high = omega arith }
 one-more-worth F S (suc h) t k M L o = go (one-more-worth F S h (suc t)) (step F (S t) t k M L o)
   where
-    go : {M′ L′ : State} {g i : ℕ} → ((k : ℕ) (M L : State) → OneMore k M L → OneAtMost (vol F S h (suc t) L) (vol F S h (suc t) M)) → Step F t k M L M′ L′ g i → OneAtMost (i + vol F S h (suc t) L′) (g + vol F S h (suc t) M′)
+    go : {M′ L′ : State} {g i : ℕ} → ((k : ℕ) (M L : State) → OneMore k M L → OneAtMost (vol F S h (suc t) L) (vol F S h (suc t) M)) →
+        Step F t k M L M′ L′ g i → OneAtMost (i + vol F S h (suc t) L′) (g + vol F S h (suc t) M′)
     go {M′} {L′} ih (stays e p) = let w = ih k M′ L′ p in record { low = omega arith; high = omega arith }
     go {M′} {L′} ih (moves k′ e a c l i p) = let w = ih k′ M′ L′ p in record { low = omega arith; high = omega arith }
     go {M′} {L′} ih (meets e a c i q) =

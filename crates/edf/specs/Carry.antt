@@ -1,20 +1,11 @@
--- Units that are carried over a slot: left before the next one although this slot could have served them.
+-- Laws of units that are carried over a slot.
 use Prim.Native.Nat.{ℕ, suc, _≤_, _<_}
-use mathlib.Core.Path.{_≡_}
 use mathlib.Core.Logic.{_⊎_, inl, inr}
 use native.Mathlib.Omega.{arith}
 use native.Mathlib.Decide.{decLe, decLt}
 use Rattle.edf.specs.Run.{Spans, State, Eligible}
+use Rattle.edf.specs.Lacking.{Carry}
 use Rattle.edf.specs.Find.{dec-both, find}
-
--- before slot t there is a unit left, due by e, that slot t - 1 could have served
-pub record Carry (F : Spans) (e t : ℕ) (L : State) : Type 0 where
-  pub job : ℕ
-  pub below : job < F .n
-  pub released : F .r job < t
-  pub unexpired : t ≤ F .d job
-  pub due : F .d job ≤ e
-  pub unit : 0 < L job
 
 pub carry-later : (F : Spans) (e e′ t : ℕ) (L : State) → e ≤ e′ → Carry F e t L → Carry F e′ t L
 carry-later F e e′ t L l c =

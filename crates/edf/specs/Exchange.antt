@@ -1,13 +1,13 @@
 -- The exchange argument: any choice at a slot, followed by earliest deadline first, serves at most what earliest deadline first does.
 use Prim.Native.Nat.{ℕ, zero, suc, _+_, _≤_, _<_}
-use mathlib.Core.Path.{_≡_, refl, ap, sym, _∙_}
-use mathlib.Core.Bool.{Bool, true, false}
+use mathlib.Core.Path.{_≡_}
+use mathlib.Core.Bool.{Bool, true}
 use mathlib.Core.Option.{Option, none, some}
 use mathlib.Core.Logic.{_≢_}
 use native.Mathlib.Omega.{arith}
 use native.Mathlib.Decide.{ℕ-discrete}
 use Rattle.edf.specs.Run.{Spans, State, Eligible, chosen, lowered, after, gain, vol}
-use Rattle.edf.specs.Pick.{First, Chosen, View, view}
+use Rattle.edf.specs.Pick.{View, view}
 use Rattle.edf.specs.Units.{OneMore, lowered-less, lowered-elsewhere, less-is-lowered, both-lowered, less-everywhere}
 use Rattle.edf.specs.Apart.{first-unique, eligible-with, one-more-worth}
 
@@ -134,12 +134,14 @@ module _ (F : Spans) (S : ℕ → Bool) (h t : ℕ) (L : State) where
   unfolding vol
   any-choice x a = choice-by (S t) x (chosen F (S t) t L) a (view F (S t) t L)
 
-  earliest-by : (b : Bool) (k : ℕ) (y : Option ℕ) → b ≡ true → Eligible F t L k → ((j : ℕ) → Eligible F t L j → F .d k ≤ F .d j) → View F b t L y → gain y + vol F S h (suc t) (after L y) ≤ 1 + vol F S h (suc t) (lowered L k)
+  earliest-by : (b : Bool) (k : ℕ) (y : Option ℕ) → b ≡ true → Eligible F t L k → ((j : ℕ) → Eligible F t L j → F .d k ≤ F .d j) →
+      View F b t L y → gain y + vol F S h (suc t) (after L y) ≤ 1 + vol F S h (suc t) (lowered L k)
   earliest-by b k none q e s w = absurd (w q k e)
   earliest-by b k (some l) q e s w = omega (arith, serve-sooner F S h t L k l e (w .1 .able) (s l (w .1 .able)))
 
   -- Whichever eligible job of earliest deadline an awake slot serves, the units served are the same.
-  pub any-earliest : (k : ℕ) → S t ≡ true → Eligible F t L k → ((j : ℕ) → Eligible F t L j → F .d k ≤ F .d j) → vol F S (suc h) t L ≡ suc (vol F S h (suc t) (lowered L k))
+  pub any-earliest : (k : ℕ) → S t ≡ true → Eligible F t L k → ((j : ℕ) → Eligible F t L j → F .d k ≤ F .d j) →
+      vol F S (suc h) t L ≡ suc (vol F S h (suc t) (lowered L k))
   unfolding vol
   any-earliest k q e s =
       omega (arith, any-choice (some k) (q, e), earliest-by (S t) k (chosen F (S t) t L) q e s (view F (S t) t L))

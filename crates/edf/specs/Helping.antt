@@ -1,32 +1,19 @@
 -- Where one slot more serves a unit more: a lossy deadline, and a unit due by it carried over every slot up to it.
-use Prim.Native.Nat.{ℕ, zero, suc, _+_, _≤_, _<_}
-use mathlib.Core.Path.{_≡_, refl, ap, sym, _∙_}
-use mathlib.Core.Bool.{Bool, true, false}
+use Prim.Native.Nat.{ℕ, suc, _≤_, _<_}
+use mathlib.Core.Path.{_≡_, refl, ap}
+use mathlib.Core.Bool.{Bool, true}
 use mathlib.Core.Option.{Option, none, some}
-use mathlib.Core.Logic.{_⊎_, inl, inr, _≢_}
+use mathlib.Core.Logic.{_⊎_, inl, inr}
 use native.Mathlib.Omega.{arith}
 use native.Mathlib.Decide.{le-ind}
-use Rattle.edf.specs.Run.{Spans, State, Eligible, chosen, after, gain, vol, left, allUnits}
-use Rattle.edf.specs.Pick.{Chosen, View, view}
+use Rattle.edf.specs.Run.{Spans, State, Eligible, chosen, after, vol, left, allUnits}
+use Rattle.edf.specs.Pick.{View, view}
 use Rattle.edf.specs.Units.{OneMore, sum-one-more}
 use Rattle.edf.specs.Apart.{Step, stays, moves, meets}
 use Rattle.edf.specs.Left.{vol-and-left, left-asleep}
-use Rattle.edf.specs.Carry.{Carry, carry-more, carry-eligible}
-use Rattle.edf.specs.OneSlotMore.{Extra, Gap, closed, Open, open-at, extra-step, extra-apart, apart-step, gap, extra-leaves-less}
-
--- units due at e are left where nothing can serve them any more
-pub record Lossy (F : Spans) (e : ℕ) (L : State) : Type 0 where
-  pub job : ℕ
-  pub below : job < F .n
-  pub at-end : F .d job ≡ e
-  pub unit : 0 < L job
-
--- over every slot from x up to the deadline a unit due by then is carried, and one of that deadline is lost
-pub record Lacking (F : Spans) (S : ℕ → Bool) (p : State) (H x : ℕ) : Type 0 where
-  pub deadline : ℕ
-  pub ahead : x < deadline
-  pub lossy : Lossy F deadline (left F S p H)
-  pub carried : (s : ℕ) → x < s → s ≤ deadline → Carry F deadline s (left F S p s)
+use Rattle.edf.specs.Lacking.{Carry, Lacking}
+use Rattle.edf.specs.Carry.{carry-more, carry-eligible}
+use Rattle.edf.specs.OneSlotMore.{Extra, Gap, closed, open-at, extra-step, extra-apart, apart-step, gap, extra-leaves-less}
 
 module _ (F : Spans) (S S′ : ℕ → Bool) (p : State) (x H : ℕ) (c : Extra S S′ x) where
   closed-volume : left F S p H ≡ left F S′ p H → vol F S′ H 0 p ≡ vol F S H 0 p
@@ -64,7 +51,8 @@ module _ (F : Spans) (S S′ : ℕ → Bool) (p : State) (x H : ℕ) (c : Extra 
     due : F .d job ≤ e
     apart : OneMore job (left F S p t) (left F S′ p t)
 
-  due-start : (e : ℕ) (o : Option ℕ) → View F true x (left F S p x) o → left F S′ p (suc x) ≡ after (left F S p x) o → Carry F e (suc x) (left F S p (suc x)) → DueBy e (suc x)
+  due-start : (e : ℕ) (o : Option ℕ) → View F true x (left F S p x) o → left F S′ p (suc x) ≡ after (left F S p x) o →
+      Carry F e (suc x) (left F S p (suc x)) → DueBy e (suc x)
   due-start e none v q k =
       absurd (v refl (k .job) (carry-eligible F e x (left F S p (suc x)) (left F S p x) k (rw (left-asleep F S p x (c .asleep)) at (k .unit))))
   due-start e (some m) v q k =

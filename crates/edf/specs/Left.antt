@@ -1,5 +1,5 @@
 -- What is left along the run: it only falls, a job is served in its own slots only, and what is served is no longer left.
-use Prim.Native.Nat.{ℕ, zero, suc, _+_, _-_, _≤_, _<_}
+use Prim.Native.Nat.{ℕ, zero, suc, _+_, _≤_}
 use mathlib.Core.Path.{_≡_, refl, ap, sym, _∙_}
 use mathlib.Core.Bool.{Bool, true, false}
 use mathlib.Core.Option.{Option, none, some}
@@ -7,7 +7,7 @@ use native.Mathlib.Omega.{arith}
 use native.Mathlib.Decide.{ℕ-discrete, le-ind}
 use Rattle.edf.specs.Run.{Spans, State, Eligible, pick, chosen, lowered, after, gain, vol, final, left, allUnits}
 use Rattle.edf.specs.Pick.{View, view}
-use Rattle.edf.specs.Units.{OneMore, lowered-less, lowered-there, lowered-elsewhere, less-everywhere, sum-one-more}
+use Rattle.edf.specs.Units.{lowered-less, lowered-elsewhere, less-everywhere, sum-one-more}
 
 module _ (F : Spans) (b : Bool) (t : ℕ) (L : State) where
   after-falls : (o : Option ℕ) → View F b t L o → (j : ℕ) → after L o j ≤ L j

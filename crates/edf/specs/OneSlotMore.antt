@@ -1,6 +1,6 @@
 -- Two runs, the second with slot x awake as well: after x what they leave is the same, or differs by one unit of one job. The deadline of
 -- that job never falls, and from x on some unit due by then was carried over every slot.
-use Prim.Native.Nat.{ℕ, zero, suc, _+_, _≤_, _<_}
+use Prim.Native.Nat.{ℕ, zero, suc, _≤_, _<_}
 use mathlib.Core.Path.{_≡_, refl, ap, sym, _∙_}
 use mathlib.Core.Bool.{Bool, true, false}
 use mathlib.Core.Option.{Option, none, some}
@@ -8,11 +8,12 @@ use mathlib.Core.Logic.{_⊎_, inl, inr, _≢_}
 use native.Mathlib.Omega.{arith}
 use native.Mathlib.Decide.{le-ind, decLt}
 use Rattle.sched.specs.Bounded.Laws.{lt-suc}
-use Rattle.edf.specs.Run.{Spans, State, Eligible, chosen, lowered, after, gain, left}
+use Rattle.edf.specs.Run.{Spans, State, chosen, lowered, after, gain, left}
 use Rattle.edf.specs.Pick.{Chosen, View, view}
 use Rattle.edf.specs.Units.{OneMore, lowered-less, less-everywhere}
 use Rattle.edf.specs.Left.{left-asleep}
-use Rattle.edf.specs.Carry.{Carry, carry-later, own-carry}
+use Rattle.edf.specs.Lacking.{Carry}
+use Rattle.edf.specs.Carry.{carry-later, own-carry}
 use Rattle.edf.specs.Apart.{Step, stays, moves, meets, step}
 
 -- S′ is S with slot x awake as well
@@ -68,9 +69,9 @@ module _ (F : Spans) (S S′ : ℕ → Bool) (p : State) (x : ℕ) (c : Extra S 
         later = v .1 .able .before;
         apart = extra-apart k (v .1) e;
         carried = λ s a b d.
-          let q : s ≡ suc x = omega arith in
-          own-carry F k s (left F S p s) (v .1 .able .below) (omega (arith, v .1 .able .released)) d
-          (rw (q, left-asleep F S p x (c .asleep)) (v .1 .able .unit));
+            let q : s ≡ suc x = omega arith in
+            own-carry F k s (left F S p s) (v .1 .able .below) (omega (arith, v .1 .able .released)) d
+            (rw (q, left-asleep F S p x (c .asleep)) (v .1 .able .unit));
       })
 
   -- one unit apart at another slot

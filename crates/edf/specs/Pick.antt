@@ -98,8 +98,10 @@ view F true t L = go (pick F t L) (earliest-view (F .d) (servable F t L) (F .n))
   where
     go : (o : Option ℕ) → EarliestView (F .d) (servable F t L) (F .n) o → View F true t L o
     go none v = λ _ j e. true-not-false (servable F t L j) (servable-if F t L j e) (v j (e .below))
-    go (some k) v =
-        (refl, record {
-          able = eligible F t L k (v .below) (v .holds);
-          first = λ j e. v .first j (e .below) (servable-if F t L j e);
-        })
+    go (some k) v = (
+      refl,
+      record {
+        able = eligible F t L k (v .below) (v .holds);
+        first = λ j e. v .first j (e .below) (servable-if F t L j e);
+      },
+    )

@@ -1,6 +1,6 @@
 -- The run is a placement, and no placement has more units: from any slot and any state.
-use Prim.Native.Nat.{ℕ, zero, suc, _+_, _-_, _≤_, _<_}
-use mathlib.Core.Path.{_≡_, refl, ap, sym, _∙_}
+use Prim.Native.Nat.{ℕ, zero, suc, _+_, _≤_, _<_}
+use mathlib.Core.Path.{_≡_, refl, ap, sym}
 use mathlib.Core.Bool.{Bool, true, false, false≢true}
 use mathlib.Core.List.{List, [], _∷_}
 use mathlib.Core.Option.{Option, none, some}
@@ -8,24 +8,18 @@ use mathlib.Core.Logic.{_≢_}
 use native.Mathlib.Omega.{arith}
 use native.Mathlib.Decide.{ℕ-discrete}
 use borrow.Author.Tests.{ltb-true, ltb-false, lt-ltb, le-ltb, eq-eqb, ne-eqb}
-use lib.Dec.{ltb, eqb}
+use lib.Dec.{ltb}
 use lib.ListN.{length, getD}
 use Rattle.sched.specs.Bounded.Laws.{by-bool}
-use Rattle.sched.specs.Jobs.{Jobs, count, release, deadline, volume}
+use Rattle.sched.specs.Jobs.{Jobs, count}
 use Rattle.sched.specs.Slots.{times}
 use Rattle.sched.specs.Feasible.{OwnSlot}
 use Rattle.sched.specs.Workable.{units}
-use Rattle.sched.specs.Steps.{runByte}
 use Rattle.edf.specs.Run.{Spans, State, Eligible, spans, chosen, lowered, after, gain, vol, final, slotByte, bytes}
+use Rattle.edf.specs.Placed.{PlacedFrom}
 use Rattle.edf.specs.Pick.{View, view}
 use Rattle.edf.specs.Units.{lowered-there, lowered-elsewhere}
 use Rattle.edf.specs.Exchange.{Allowed, any-choice}
-
--- placed gives each slot from t on a number; of a job, for a unit of it, or any other for none. There are L units of each job.
-pub record PlacedFrom (J : Jobs) (S : ℕ → Bool) (t : ℕ) (L : State) (placed : List ℕ) : Type 0 where
-  pub in-set : (i : ℕ) → i < length placed → getD placed i 0 < count J → S (t + i) ≡ true
-  pub own : (i : ℕ) → i < length placed → getD placed i 0 < count J → OwnSlot J (getD placed i 0) (t + i)
-  pub often : (j : ℕ) → j < count J → times j placed ≤ L j
 
 pub times-empty : (j : ℕ) → times j [] ≡ 0
 unfolding times
@@ -79,21 +73,32 @@ module _ (J : Jobs) (S : ℕ → Bool) (t : ℕ) (L : State) (x : ℕ) (rest : L
   idling-leaves l j b = omega (arith, c .often j b, times-other j x rest (omega arith))
 
 -- No placement from a state has more units than the run from it.
-pub placed-at-most : (J : Jobs) (S : ℕ → Bool) (t : ℕ) (L : State) (placed : List ℕ) → PlacedFrom J S t L placed → units J placed ≤ vol (spans J) S (length placed) t L
+pub placed-at-most : (J : Jobs) (S : ℕ → Bool) (t : ℕ) (L : State) (placed : List ℕ) → PlacedFrom J S t L placed →
+    units J placed ≤ vol (spans J) S (length placed) t L
 placed-at-most J S t L [] c = omega (arith, units-empty J)
 placed-at-most J S t L (x ∷ rest) c =
     by-bool (ltb x (count J)) (λ e. job (ltb-true _ _ e) (placed-at-most J S (suc t) (lowered L x) rest))
     (λ e. other (ltb-false _ _ e) (placed-at-most J S (suc t) L rest))
   where
-    job : x < count J → (PlacedFrom J S (suc t) (lowered L x) rest → units J rest ≤ vol (spans J) S (length rest) (suc t) (lowered L x)) → units J (x ∷ rest) ≤ vol (spans J) S (suc (length rest)) t L
+    job : x < count J → (PlacedFrom J S (suc t) (lowered L x) rest → units J rest ≤ vol (spans J) S (length rest) (suc t) (lowered L x)) →
+        units J (x ∷ rest) ≤ vol (spans J) S (suc (length rest)) t L
     job l ih =
-        omega (arith, units-job J x rest l, ih (rest-placed J S t L x rest c (lowered L x) (serving-leaves J S t L x rest c l)),
-          any-choice (spans J) S (length rest) t L (some x) (head-allowed J S t L x rest c l))
+        omega (
+          arith,
+          units-job J x rest l,
+          ih (rest-placed J S t L x rest c (lowered L x) (serving-leaves J S t L x rest c l)),
+          any-choice (spans J) S (length rest) t L (some x) (head-allowed J S t L x rest c l),
+        )
 
-    other : count J ≤ x → (PlacedFrom J S (suc t) L rest → units J rest ≤ vol (spans J) S (length rest) (suc t) L) → units J (x ∷ rest) ≤ vol (spans J) S (suc (length rest)) t L
+    other : count J ≤ x → (PlacedFrom J S (suc t) L rest → units J rest ≤ vol (spans J) S (length rest) (suc t) L) →
+        units J (x ∷ rest) ≤ vol (spans J) S (suc (length rest)) t L
     other l ih =
-        omega (arith, units-none J x rest l, ih (rest-placed J S t L x rest c L (idling-leaves J S t L x rest c l)),
-          any-choice (spans J) S (length rest) t L none tt)
+        omega (
+          arith,
+          units-none J x rest l,
+          ih (rest-placed J S t L x rest c L (idling-leaves J S t L x rest c l)),
+          any-choice (spans J) S (length rest) t L none tt,
+        )
 
 -- The bytes of the run
 
@@ -104,7 +109,8 @@ bytes-long F S (suc h) t L = ap suc (bytes-long F S h (suc t) (after L (chosen F
 
 -- job numbers stay clear of the bytes for idle and asleep
 module _ (J : Jobs) (few : count J ≤ 254) (S : ℕ → Bool) where
-  byte-eligible : (b : Bool) (t : ℕ) (L : State) (o : Option ℕ) → View (spans J) b t L o → slotByte b o < count J → (b ≡ true) × Eligible (spans J) t L (slotByte b o)
+  byte-eligible : (b : Bool) (t : ℕ) (L : State) (o : Option ℕ) → View (spans J) b t L o → slotByte b o < count J →
+      (b ≡ true) × Eligible (spans J) t L (slotByte b o)
   byte-eligible false t L o v l = absurd (omega arith)
   byte-eligible true t L none v l = absurd (omega arith)
   byte-eligible true t L (some k) v l = (refl, v .1 .able)
@@ -115,7 +121,8 @@ module _ (J : Jobs) (few : count J ≤ 254) (S : ℕ → Bool) where
   byte-units true t L none rest v = omega (arith, units-none J 254 rest (omega arith))
   byte-units true t L (some k) rest v = omega (arith, units-job J k rest (v .1 .able .below))
 
-  byte-times : (b : Bool) (t : ℕ) (L : State) (o : Option ℕ) (rest : List ℕ) (j : ℕ) → j < count J → View (spans J) b t L o → times j (slotByte b o ∷ rest) + after L o j ≡ times j rest + L j
+  byte-times : (b : Bool) (t : ℕ) (L : State) (o : Option ℕ) (rest : List ℕ) (j : ℕ) → j < count J → View (spans J) b t L o →
+      times j (slotByte b o ∷ rest) + after L o j ≡ times j rest + L j
   byte-times false t L none rest j l v = omega (arith, times-other j 255 rest (omega arith))
   byte-times false t L (some k) rest j l v = absurd (false≢true (v .0))
   byte-times true t L none rest j l v = omega (arith, times-other j 254 rest (omega arith))
@@ -142,7 +149,8 @@ module _ (J : Jobs) (few : count J ≤ 254) (S : ℕ → Bool) where
       let rest = bytes (spans J) S h (suc t) (after L o) in
       omega (arith, bytes-units h (suc t) (after L o), byte-units (S t) t L o rest (view (spans J) (S t) t L))
 
-  bytes-own : (h t : ℕ) (L : State) (i : ℕ) → i < h → getD (bytes (spans J) S h t L) i 0 < count J → (S (t + i) ≡ true) × OwnSlot J (getD (bytes (spans J) S h t L) i 0) (t + i)
+  bytes-own : (h t : ℕ) (L : State) (i : ℕ) → i < h → getD (bytes (spans J) S h t L) i 0 < count J →
+      (S (t + i) ≡ true) × OwnSlot J (getD (bytes (spans J) S h t L) i 0) (t + i)
   unfolding bytes
   bytes-own zero t L i l k = absurd (omega arith)
   bytes-own (suc h) t L zero l k =

@@ -1,7 +1,7 @@
 -- No interval is overloaded: in each there is room for the jobs inside.
 use Prim.Native.Nat.{ℕ, _-_, _≤_, _<_}
 use mathlib.Core.Path.{_≡_}
-use mathlib.Core.Bool.{Bool, false}
+use mathlib.Core.Bool.{false}
 use borrow.Author.Tests.{ltb-false, lt-ltb, le-leb}
 use Rattle.sched.specs.Jobs.{Jobs, volume}
 use Rattle.sched.specs.Checks.{Passes}

@@ -7,13 +7,14 @@ use mathlib.Core.Option.{Option, none, some}
 use mathlib.Core.Logic.{_⊎_, inl, inr}
 use native.Mathlib.Omega.{arith}
 use native.Mathlib.Decide.{ℕ-discrete, decLt}
-use lib.ListN.{length, getD, set, List·getD-eq-default}
+use lib.ListN.{length, getD, List·getD-eq-default}
 use lib.Seq.{getD-set-same, getD-set-other, set-out}
 use Rattle.sched.specs.Bounded.{maxBelow}
 use Rattle.sched.specs.Bounded.Laws.{lt-suc, by-bool}
 use Rattle.sched.specs.Jobs.{Jobs, count}
+use Rattle.sched.specs.Slots.{awake}
 use Rattle.sched.specs.Workable.{placeable, lower, mostFrom}
-use Rattle.edf.specs.Run.{Spans, State, servable, Eligible, spans, chosen, lowered, after, gain, vol}
+use Rattle.edf.specs.Run.{Spans, State, spans, chosen, lowered, after, gain, vol}
 use Rattle.edf.specs.Pick.{View, view, eligible, servable-if}
 use Rattle.edf.specs.Units.{lowered-there, lowered-elsewhere}
 use Rattle.edf.specs.Exchange.{any-choice}
@@ -29,8 +30,12 @@ state-lowered l k = fun-ext (λ j. go j (ℕ-discrete j k) (decLt k (length l)))
     go j (yes e) (yes b) = rw e (getD-set-same l k (getD l k 0 - 1) 0 b ∙ sym (lowered-there (stateOf l) k))
     go j (yes e) (no b) =
         rw e
-        (omega (arith, ap (λ (x : List ℕ). getD x k 0) (set-out l k (getD l k 0 - 1) (omega arith)), List·getD-eq-default l 0 {n = k} (omega arith),
-          lowered-there (stateOf l) k))
+        (omega (
+          arith,
+          ap (λ (x : List ℕ). getD x k 0) (set-out l k (getD l k 0 - 1) (omega arith)),
+          List·getD-eq-default l 0 {n = k} (omega arith),
+          lowered-there (stateOf l) k,
+        ))
     go j (no f) b = getD-set-other l k j (getD l k 0 - 1) 0 f ∙ sym (lowered-elsewhere (stateOf l) k j f)
 
 max-below-at-most : (n : ℕ) (f : ℕ → ℕ) (v : ℕ) → ((j : ℕ) → j < n → f j ≤ v) → maxBelow n f ≤ v
@@ -70,18 +75,27 @@ module _ (J : Jobs) (S : ℕ → Bool) (h t : ℕ) (l : List ℕ) (v : ℕ → �
       not-able : placeable J t l j ≡ false → tried J t l v j ≤ vol (spans J) S (suc h) t (stateOf l)
       not-able e = omega (arith, tried-not J t l v j e)
 
-  tried-pick : (b : Bool) (o : Option ℕ) → View (spans J) b t (stateOf l) o → gain o + vol (spans J) S h (suc t) (after (stateOf l) o) ≤ max (vol (spans J) S h (suc t) (stateOf l)) (maxBelow (count J) (tried J t l v))
+  tried-pick : (b : Bool) (o : Option ℕ) → View (spans J) b t (stateOf l) o →
+      gain o + vol (spans J) S h (suc t) (after (stateOf l) o) ≤ max (vol (spans J) S h (suc t) (stateOf l)) (maxBelow (count J) (tried J t l v))
   tried-pick b none w = omega arith
   tried-pick b (some k) w =
-      omega (arith, max-below-at-least (count J) (tried J t l v) k (w .1 .able .below),
-        tried-able J t l v k (servable-if (spans J) t (stateOf l) k (w .1 .able)), known k)
+      omega (
+        arith,
+        max-below-at-least (count J) (tried J t l v) k (w .1 .able .below),
+        tried-able J t l v k (servable-if (spans J) t (stateOf l) k (w .1 .able)),
+        known k,
+      )
 
   -- a slot's choice of the best is the run's choice
   best-is-run : S t ≡ true → max (vol (spans J) S h (suc t) (stateOf l)) (maxBelow (count J) (tried J t l v)) ≡ vol (spans J) S (suc h) t (stateOf l)
   unfolding vol
   best-is-run w =
-      omega (arith, any-choice (spans J) S h t (stateOf l) none tt, max-below-at-most (count J) (tried J t l v) (vol (spans J) S (suc h) t (stateOf l)) (tried-at-most w),
-        tried-pick (S t) (chosen (spans J) (S t) t (stateOf l)) (view (spans J) (S t) t (stateOf l)))
+      omega (
+        arith,
+        any-choice (spans J) S h t (stateOf l) none tt,
+        max-below-at-most (count J) (tried J t l v) (vol (spans J) S (suc h) t (stateOf l)) (tried-at-most w),
+        tried-pick (S t) (chosen (spans J) (S t) t (stateOf l)) (view (spans J) (S t) t (stateOf l)),
+      )
 
 pub vol-asleep : (F : Spans) (S : ℕ → Bool) (h t : ℕ) (L : State) → S t ≡ false → vol F S (suc h) t L ≡ vol F S h (suc t) L
 unfolding vol chosen
@@ -91,6 +105,9 @@ vol-asleep F S h t L e = rw (e, vol, chosen) (omega arith)
 abbrev pub Reads : (ℕ → Bool) → ℕ → List Bool → Type 0
 Reads S t rest = (i : ℕ) → i < length rest → getD rest i false ≡ S (t + i)
 
+pub reads-whole : (S : List Bool) → Reads (awake S) 0 S
+reads-whole S i l = let e : i ≡ 0 + i = omega arith in ap (awake S) e
+
 module _ (S : ℕ → Bool) (t : ℕ) (b : Bool) (rest : List Bool) (e : Reads S t (b ∷ rest)) where
   pub reads-head : S t ≡ b
   reads-head = let q : t + 0 ≡ t = omega arith in sym (rw q at (e 0 (omega arith)))
@@ -98,7 +115,8 @@ module _ (S : ℕ → Bool) (t : ℕ) (b : Bool) (rest : List Bool) (e : Reads S
   pub reads-tail : Reads S (suc t) rest
   reads-tail i l = let q : t + suc i ≡ suc t + i = omega arith in rw q at (e (suc i) (omega arith))
 
-pub search-is-run : (J : Jobs) (S : ℕ → Bool) (rest : List Bool) (t : ℕ) (l : List ℕ) → Reads S t rest → mostFrom J t l rest ≡ vol (spans J) S (length rest) t (stateOf l)
+pub search-is-run : (J : Jobs) (S : ℕ → Bool) (rest : List Bool) (t : ℕ) (l : List ℕ) → Reads S t rest →
+    mostFrom J t l rest ≡ vol (spans J) S (length rest) t (stateOf l)
 unfolding mostFrom vol
 search-is-run J S [] t l e = refl
 search-is-run J S (false ∷ rest) t l e =

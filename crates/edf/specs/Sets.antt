@@ -1,5 +1,5 @@
 -- Sets of slots given as lists: waking a slot, touching, skeletons.
-use Prim.Native.Nat.{ℕ, suc, _≤_, _<_}
+use Prim.Native.Nat.{ℕ, suc, _<_}
 use mathlib.Core.Path.{_≡_, ap, sym, _∙_}
 use mathlib.Core.Bool.{Bool, true, false, _&&_}
 use mathlib.Core.List.{List}
@@ -27,6 +27,7 @@ wake-awake S x e = ap (λ (b : Bool). set S x b) (sym e) ∙ set-getD S x false
 pub touching : (S : List Bool) (x : ℕ) → NextToAwake (awake S) x → touches S x ≡ true
 touching S x (inl (y, e, a)) = rw (← e) (or-left (awake S y) (awake S (suc (suc y))) a)
 touching S x (inr a) = or-right (awakeBefore S x) (awake S (suc x)) a
+
 pub skeleton-windows : (J : Jobs) (S : List Bool) → isSkeleton J S ≡ true → (j : ℕ) → j < count J → Window (spans J) (awake S) j
 unfolding isSkeleton
 skeleton-windows J S e j l =

@@ -1,22 +1,21 @@
 -- Why a unit is lost: before its deadline lies an interval whose awake slots serve only jobs inside it, and its sleeping slots help.
 use Prim.Native.Nat.{ℕ, zero, suc, _+_, _-_, _≤_, _<_}
-use mathlib.Core.Path.{_≡_, refl, ap, sym, _∙_}
-use mathlib.Core.Bool.{Bool, true, false, not, _&&_, Bool-discrete}
+use mathlib.Core.Path.{_≡_, refl}
+use mathlib.Core.Bool.{Bool, true, false, _&&_}
 use mathlib.Core.Option.{Option, none, some}
-use mathlib.Core.Logic.{_⊎_, inl, inr, _≢_}
 use native.Mathlib.Omega.{arith}
-use native.Mathlib.Decide.{ℕ-discrete, decLe, decLt}
-use borrow.Author.Tests.{le-leb, lt-leb, leb-true}
+use native.Mathlib.Decide.{decLe}
+use borrow.Author.Tests.{le-leb, leb-true}
 use lib.Dec.{leb}
 use Rattle.sched.specs.Bounded.{sumBelow}
 use Rattle.sched.specs.Bounded.Laws.{sum-ext, by-bool, and-true}
-use Rattle.edf.specs.Run.{Spans, State, Eligible, chosen, lowered, after, left}
+use Rattle.edf.specs.Run.{Spans, State, chosen, lowered, after, left}
 use Rattle.edf.specs.Pick.{View, view}
 use Rattle.edf.specs.Units.{OneMore, lowered-less, sum-one-more}
 use Rattle.edf.specs.Left.{left-falls, left-unreleased}
-use Rattle.edf.specs.Carry.{Carry, carry-eligible, carry-decided}
-use Rattle.edf.specs.Helping.{Lossy}
-use Rattle.edf.specs.Find.{dec-both, find, last-failure, Change, change, sum-positive, part-positive}
+use Rattle.edf.specs.Lacking.{Carry, Lossy}
+use Rattle.edf.specs.Carry.{carry-eligible, carry-decided}
+use Rattle.edf.specs.Find.{last-failure, part-positive}
 
 -- nothing due by e is carried over a, and something is over every slot from there to e, where units are lost
 pub record Critical (F : Spans) (S : ℕ → Bool) (p : State) (a e : ℕ) : Type 0 where
@@ -113,8 +112,12 @@ module _ (F : Spans) (S : ℕ → Bool) (p : State) where
       inside-left : 0 < sumBelow (F .n) (unitsInside F a e (left F S p e))
       inside-left =
           let k = c .carried e (c .below) (omega arith) in
-          omega (arith, k .unit, part-positive (F .n) (unitsInside F a e (left F S p e)) (k .job) (k .below),
-            units-in F a e (left F S p e) (k .job) (inside e (k .job) (omega (arith, c .below)) (k .below) (k .unexpired) (k .due) (k .unit)) (k .due))
+          omega (
+            arith,
+            k .unit,
+            part-positive (F .n) (unitsInside F a e (left F S p e)) (k .job) (k .below),
+            units-in F a e (left F S p e) (k .job) (inside e (k .job) (omega (arith, c .below)) (k .below) (k .unexpired) (k .due) (k .unit)) (k .due),
+          )
 
       -- Where all its slots are awake, the jobs inside have more units than it has slots.
       pub overfull : e - a < sumBelow (F .n) (unitsInside F a e p)

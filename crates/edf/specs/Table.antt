@@ -1,8 +1,8 @@
 -- Step 4: the table of a set of slots keeps the set, and where the run leaves no unit it is the run's own table and feasible.
-use Prim.Native.Nat.{ℕ, zero, suc, _+_, _-_, _≤_, _<_}
+use Prim.Native.Nat.{ℕ, zero, suc, _+_, _≤_, _<_}
 use mathlib.Core.Path.{_≡_, refl, ap, ap₂, sym, _∙_}
 use mathlib.Core.Bool.{Bool, true, false, not, _&&_}
-use mathlib.Core.List.{List, [], _∷_, map}
+use mathlib.Core.List.{List, [], _∷_}
 use mathlib.Core.Option.{Option, none, some}
 use mathlib.Core.Logic.{_⊎_, inl, inr}
 use native.Mathlib.Omega.{arith}
@@ -11,10 +11,10 @@ use lib.Dec.{leb, ltb, eqb}
 use lib.ListN.{length, getD}
 use Rattle.sched.specs.Jobs.{Jobs, count, release, deadline, volume}
 use Rattle.sched.specs.Slots.{awakeOf, idle, asleep}
-use Rattle.sched.specs.Feasible.{Feasible, OwnSlot}
+use Rattle.sched.specs.Feasible.{Feasible}
 use Rattle.sched.specs.Steps.{runnable, earlier, earliest, runByte, serve, fill}
 use Rattle.sched.specs.Steps.{pick as stepPick}
-use Rattle.edf.specs.Run.{Spans, State, spans, servable, Eligible, pick, chosen, lowered, after, final, slotByte, bytes, left}
+use Rattle.edf.specs.Run.{State, spans, servable, pick, chosen, after, slotByte, bytes, left}
 use Rattle.edf.specs.Pick.{EarliestView, earliest-view, View, view}
 use Rattle.edf.specs.Left.{left-past-deadline, left-asleep, left-awake, final-left}
 use Rattle.edf.specs.Search.{stateOf, state-lowered, Reads, reads-head, reads-tail}
@@ -72,24 +72,26 @@ module _ (J : Jobs) (S : ℕ → Bool) (p : State) (H : ℕ) (done : (j : ℕ) �
   unfolding chosen
   head-awake t e = rw e
 
-  pub fill-is-run : (rest : List Bool) (t : ℕ) (l : List ℕ) → Reads S t rest → t + length rest ≡ H → stateOf l ≡ left (spans J) S p t → fill J t l rest ≡ bytes (spans J) S (length rest) t (left (spans J) S p t)
+  pub fill-is-run : (rest : List Bool) (t : ℕ) (l : List ℕ) → Reads S t rest → t + length rest ≡ H → stateOf l ≡ left (spans J) S p t →
+      fill J t l rest ≡ bytes (spans J) S (length rest) t (left (spans J) S p t)
   unfolding fill bytes left
   fill-is-run [] t l e q i = refl
   fill-is-run (false ∷ rest) t l e q i =
       ap₂ (λ (x : ℕ) (xs : List ℕ). x ∷ xs)
       (head-asleep t (chosen (spans J) (S t) t (left (spans J) S p t)) (reads-head S t false rest e))
       (fill-is-run rest (suc t) l (reads-tail S t false rest e) (omega arith)
-        (i ∙ sym (left-asleep (spans J) S p t (reads-head S t false rest e))))
+      (i ∙ sym (left-asleep (spans J) S p t (reads-head S t false rest e))))
   fill-is-run (true ∷ rest) t l e q i =
       let o = same-pick t l (omega arith) i in
       let w = reads-head S t true rest e in
       ap₂ (λ (x : ℕ) (xs : List ℕ). x ∷ xs) (ap runByte o ∙ head-awake t w)
       (fill-is-run rest (suc t) (serve l (stepPick J t l)) (reads-tail S t true rest e) (omega arith)
-        (serve-state l (stepPick J t l) ∙ ap₂ after i o ∙ sym (left-awake (spans J) S p t w)))
+      (serve-state l (stepPick J t l) ∙ ap₂ after i o ∙ sym (left-awake (spans J) S p t w)))
 
 -- A run that leaves nothing is feasible
 
-byte-known : (J : Jobs) (b : Bool) (t : ℕ) (L : State) (o : Option ℕ) → View (spans J) b t L o → (slotByte b o < count J) ⊎ ((slotByte b o ≡ idle) ⊎ (slotByte b o ≡ asleep))
+byte-known : (J : Jobs) (b : Bool) (t : ℕ) (L : State) (o : Option ℕ) → View (spans J) b t L o →
+    (slotByte b o < count J) ⊎ ((slotByte b o ≡ idle) ⊎ (slotByte b o ≡ asleep))
 byte-known J false t L o v = inr (inr refl)
 byte-known J true t L none v = inr (inl refl)
 byte-known J true t L (some k) v = inl (v .1 .able .below)
@@ -101,7 +103,8 @@ bytes-known J S zero t L i l = absurd (omega arith)
 bytes-known J S (suc h) t L zero l = byte-known J (S t) t L (chosen (spans J) (S t) t L) (view (spans J) (S t) t L)
 bytes-known J S (suc h) t L (suc i) l = bytes-known J S h (suc t) (after L (chosen (spans J) (S t) t L)) i (omega arith)
 
-pub run-feasible : (J : Jobs) (S : ℕ → Bool) → count J ≤ 254 → ((j : ℕ) → j < count J → left (spans J) S (volume J) (J .horizon) j ≡ 0) → Feasible J (bytes (spans J) S (J .horizon) 0 (volume J))
+pub run-feasible : (J : Jobs) (S : ℕ → Bool) → count J ≤ 254 → ((j : ℕ) → j < count J → left (spans J) S (volume J) (J .horizon) j ≡ 0) →
+    Feasible J (bytes (spans J) S (J .horizon) 0 (volume J))
 unfolding left
 run-feasible J S few done =
     let H = J .horizon in
@@ -112,6 +115,10 @@ run-feasible J S few done =
       known = bytes-known J S H 0 (volume J);
       own = λ t l k. let e : 0 + t ≡ t = omega arith in rw e at (placed .own t (rw long l) k);
       exact = λ j l.
-        omega (arith, bytes-times J few S H 0 (volume J) j l, done j l,
-          ap (λ (L : State). L j) (final-left (spans J) S (volume J) H 0 H (omega arith)));
+          omega (
+            arith,
+            bytes-times J few S H 0 (volume J) j l,
+            done j l,
+            ap (λ (L : State). L j) (final-left (spans J) S (volume J) H 0 H (omega arith)),
+          );
     }

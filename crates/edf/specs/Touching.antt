@@ -1,16 +1,15 @@
 -- Where units are lost though no interval is overloaded, some sleeping slot next to an awake one helps; with all slots awake none is lost.
-use Prim.Native.Nat.{ℕ, zero, suc, _+_, _-_, _≤_, _<_}
-use mathlib.Core.Path.{_≡_, refl, ap, sym, _∙_}
+use Prim.Native.Nat.{ℕ, suc, _-_, _≤_, _<_}
+use mathlib.Core.Path.{_≡_, refl}
 use mathlib.Core.Bool.{Bool, true, false, Bool-discrete}
 use mathlib.Core.Logic.{_⊎_, inl, inr}
 use native.Mathlib.Omega.{arith}
 use native.Mathlib.Decide.{decLe, decLt}
 use Rattle.sched.specs.Bounded.{sumBelow}
-use Rattle.sched.specs.Bounded.Laws.{by-bool, true-not-false}
+use Rattle.sched.specs.Bounded.Laws.{by-bool}
 use Rattle.edf.specs.Run.{Spans, State, left, allUnits}
 use Rattle.edf.specs.Find.{dec-both, find, change, sum-positive}
-use Rattle.edf.specs.Carry.{Carry}
-use Rattle.edf.specs.Helping.{Lossy}
+use Rattle.edf.specs.Lacking.{Carry, Lossy}
 use Rattle.edf.specs.Shortage.{Critical, critical, released-at, unitsInside, overfull}
 
 -- an awake slot next to x
@@ -62,8 +61,11 @@ module _ (F : Spans) (S : ℕ → Bool) (p : State) (H : ℕ) (f : Fits F p H) w
       go : ((z : ℕ) × (z < e) × ((a ≤ z) × (S z ≡ false))) ⊎ ((z : ℕ) → z < e → ((a ≤ z) × (S z ≡ false)) → ⊥) → (z : ℕ) × (z < e) × ((a ≤ z) × (S z ≡ false))
       go (inl r) = r
       go (inr n) =
-          absurd (omega (arith, f .room a e (c .below) l,
-            overfull F S p a e c (λ t u v. by-bool (S t) (λ q. q) (λ q. absurd (n t v (u, q))))))
+          absurd (omega (
+            arith,
+            f .room a e (c .below) l,
+            overfull F S p a e c (λ t u v. by-bool (S t) (λ q. q) (λ q. absurd (n t v (u, q)))),
+          ))
 
   pub touching-lacks : 0 < allUnits F (left F S p H) → ((j : ℕ) → j < F .n → Window F S j) →
       (e : ℕ) × (e ≤ H) × (k : Wakeable S 0 e) × ((s : ℕ) → k .slot < s → s ≤ e → Carry F e s (left F S p s))
@@ -74,9 +76,12 @@ module _ (F : Spans) (S : ℕ → Bool) (p : State) (H : ℕ) (f : Fits F p H) w
       let (z, b, zs) = sleeping-in a e m c in
       let (j, jb, r, d) = released-at F S p a e c in
       let (w, s, v, i) = windows j jb in
-      let k = between S a e z w (zs .0) b (zs .1) (omega arith) (omega arith) s in
-      (e, m, record { slot = k .slot; from = omega arith; below = k .below; sleeps = k .sleeps; touches = k .touches },
-        (λ t q o. c .carried t (omega (arith, k .from)) o))
+      let k = between S a e z w (zs .0) b (zs .1) (omega arith) (omega arith) s in (
+        e,
+        m,
+        record { slot = k .slot; from = omega arith; below = k .below; sleeps = k .sleeps; touches = k .touches },
+        (λ t q o. c .carried t (omega (arith, k .from)) o),
+      )
 
   -- with every slot awake nothing is lost
   pub all-awake-serves : ((t : ℕ) → t < H → S t ≡ true) → allUnits F (left F S p H) ≡ 0

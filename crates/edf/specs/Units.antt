@@ -1,13 +1,10 @@
 -- States that differ by one unit, and what is served of a state.
 use Prim.Native.Nat.{ℕ, zero, suc, _+_, _-_, _≤_, _<_}
 use mathlib.Core.Path.{_≡_, refl, ap, sym, _∙_, fun-ext}
-use mathlib.Core.Bool.{Bool, true, false}
-use mathlib.Core.Option.{Option, none, some}
 use mathlib.Core.Logic.{_⊎_, inl, inr, _≢_}
 use native.Mathlib.Omega.{arith}
 use native.Mathlib.Decide.{ℕ-discrete}
 use borrow.Author.Tests.{eq-eqb, ne-eqb}
-use lib.Dec.{eqb}
 use Rattle.sched.specs.Bounded.{sumBelow}
 use Rattle.sched.specs.Bounded.Laws.{lt-suc, sum-ext}
 use Rattle.edf.specs.Run.{State, lowered}

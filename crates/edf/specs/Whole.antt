@@ -11,9 +11,10 @@ use Rattle.sched.specs.Jobs.{Jobs, count, volume, totalVolume}
 use Rattle.sched.specs.Slots.{awake}
 use Rattle.sched.specs.Workable.{Placement, Greatest, workable}
 use Rattle.edf.specs.Run.{spans, vol, left, bytes, allUnits, edfVolume}
+use Rattle.edf.specs.Placed.{PlacedFrom}
 use Rattle.edf.specs.Left.{vol-and-left}
-use Rattle.edf.specs.Placements.{PlacedFrom, placed-at-most, bytes-long, bytes-units, run-placed}
-use Rattle.edf.specs.Search.{search-is-run}
+use Rattle.edf.specs.Placements.{placed-at-most, bytes-long, bytes-units, run-placed}
+use Rattle.edf.specs.Search.{reads-whole, search-is-run}
 use Rattle.edf.specs.Find.{part-positive}
 
 module _ (J : Jobs) (S : List Bool) where
@@ -39,17 +40,18 @@ module _ (J : Jobs) (S : List Bool) where
   run-greatest few =
       let placed = bytes (spans J) (awake S) (J .horizon) 0 (volume J) in
       record {
-        reached =
-          (placed,
-            whole-placed placed (bytes-long (spans J) (awake S) (J .horizon) 0 (volume J)) (run-placed J few (awake S) (J .horizon) 0 (volume J)),
-            bytes-units J few (awake S) (J .horizon) 0 (volume J));
+        reached = (
+          placed,
+          whole-placed placed (bytes-long (spans J) (awake S) (J .horizon) 0 (volume J)) (run-placed J few (awake S) (J .horizon) 0 (volume J)),
+          bytes-units J few (awake S) (J .horizon) 0 (volume J),
+        );
         bound = λ p c. rw (c .long) at (placed-at-most J (awake S) 0 (volume J) p (placed-whole p c));
       }
 
   pub search-finds-run : length S ≡ J .horizon → workable J S ≡ edfVolume J S
   unfolding edfVolume workable
   search-finds-run q =
-      search-is-run J (awake S) S 0 (J .volumes) (λ i l. let e : i ≡ 0 + i = omega arith in ap (awake S) e)
+      search-is-run J (awake S) S 0 (J .volumes) (reads-whole S)
       ∙ ap (λ (h : ℕ). vol (spans J) (awake S) h 0 (volume J)) q
 
 module _ (J : Jobs) (same : length (J .volumes) ≡ count J) where

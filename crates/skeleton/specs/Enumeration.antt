@@ -30,7 +30,8 @@ module _ (price : List Bool → ℕ) where
   unfolding firstLeast
   found-first S R l h = rw (le-leb _ _ h, firstLeast)
 
-  found-later : (S R : List Bool) (l : List (List Bool)) → leb (price S) (price (firstLeast price R l)) ≡ false → firstLeast price S (R ∷ l) ≡ firstLeast price R l
+  found-later : (S R : List Bool) (l : List (List Bool)) → leb (price S) (price (firstLeast price R l)) ≡ false
+      → firstLeast price S (R ∷ l) ≡ firstLeast price R l
   unfolding firstLeast
   found-later S R l e = rw (e, firstLeast)
 
@@ -62,7 +63,8 @@ module _ (price : List Bool → ℕ) where
       later : firstLeast price R l ≡ B → Among B (R ∷ l) → firstLeast price S (R ∷ l) ≡ B
       later e m =
           by-bool (leb (price S) (price (firstLeast price R l)))
-          (λ y. let h : price S ≤ price (firstLeast price R l) = leb-true _ _ y in let g : price S ≤ price B = rw e at h in found-first S R l h ∙ precedes-both S B (o .0 B m) (best .ties S (here refl) (omega (arith, best .least S (here refl)))))
+          (λ y. let h : price S ≤ price (firstLeast price R l) = leb-true _ _ y in let g : price S ≤ price B = rw e at h in
+          found-first S R l h ∙ precedes-both S B (o .0 B m) (best .ties S (here refl) (omega (arith, best .least S (here refl)))))
           (λ n. found-later S R l n ∙ e)
 
       go : (B ≡ S) ⊎ Among B (R ∷ l) → (Best B (R ∷ l) → firstLeast price R l ≡ B) → firstLeast price S (R ∷ l) ≡ B
@@ -145,7 +147,11 @@ unfolding allSets
 all-ordered zero = (λ R m. absurd (nowhere m), tt)
 all-ordered (suc n) =
     let o = all-ordered n in
-    joined-ordered (map (λ T. false ∷ T) (allSets n)) (map (λ T. true ∷ T) (allSets n)) (led-ordered false (allSets n) o) (led-ordered true (allSets n) o)
+    joined-ordered
+    (map (λ T. false ∷ T) (allSets n))
+    (map (λ T. true ∷ T) (allSets n))
+    (led-ordered false (allSets n) o)
+    (led-ordered true (allSets n) o)
     (λ S R i j. rw (led false (allSets n) S i .is, led true (allSets n) R j .is) tt)
 
 all-among : (S : List Bool) → Among S (allSets (length S))
@@ -172,7 +178,8 @@ least-of J B (S ∷ l) o best = found-best (energy J) B S l o best
 -- a set with the properties that step 2 asks for is the set that step 2 takes
 pub least-is : (J : Jobs) (B : List Bool) → Least J B → leastSkeleton J ≡ B
 unfolding leastSkeleton skeletons
-least-is J B h = least-of J B (keep (isSkeleton J) (allSets (J .horizon))) (kept-ordered (isSkeleton J) (allSets (J .horizon)) (all-ordered (J .horizon))) best
+least-is J B h =
+    least-of J B (keep (isSkeleton J) (allSets (J .horizon))) (kept-ordered (isSkeleton J) (allSets (J .horizon)) (all-ordered (J .horizon))) best
   where
     long : (S : List Bool) → Among S (keep (isSkeleton J) (allSets (J .horizon))) → length S ≡ J .horizon
     long S m = all-length (J .horizon) S (kept (isSkeleton J) (allSets (J .horizon)) S m .0)

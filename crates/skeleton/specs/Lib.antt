@@ -3,6 +3,9 @@ pub mod Recursion
 pub mod Precedence
 pub mod Enumeration
 pub mod Windows
+pub mod Order
+pub mod Runs
+pub mod Cases
 pub mod Theorems
 pub mod Waking
 pub mod Rival

@@ -4,6 +4,7 @@ use Prim.Native.Nat.{ℕ, zero, suc, _+_, _-_, _≤_, _<_}
 use mathlib.Core.Path.{_≡_, refl, sym, ap, ap₂, _∙_}
 use mathlib.Core.Bool.{Bool, true, false, not, _&&_, and-false, and-true as and-true-right}
 use mathlib.Core.List.{List, [], _∷_}
+use mathlib.Core.Option.{none}
 use native.Mathlib.Omega.{arith}
 use native.Mathlib.Decide.{ℕ-discrete, decLt}
 use borrow.Author.Tests.{ltb-true, leb-true, lt-ltb, le-ltb, eq-eqb, ne-eqb}
@@ -15,9 +16,9 @@ use Rattle.sched.specs.Bounded.Laws.{and-true, sum-ext, sum-add, sum-zero, sum-
 use Rattle.sched.specs.Jobs.{Jobs, count, release, deadline, volume, totalVolume}
 use Rattle.sched.specs.Slots.{awake, awakeOf, times, asleep}
 use Rattle.sched.specs.Feasible.{Feasible}
-use Rattle.sched.specs.Overload.{overloaded, volumeIf, volumeInside}
+use Rattle.sched.specs.Overload.{overloaded, volumeIf, volumeInside, shownOverload}
 use Rattle.sched.specs.Workable.{Placement, units}
-use Rattle.edf.specs.Overload.Laws.{not-overfull}
+use Rattle.edf.specs.Overload.Laws.{not-overfull, none-shown}
 
 abbrev one : Bool → ℕ
 one true = 1
@@ -50,11 +51,11 @@ hit-step false c k = refl
 -- counted by number or by slot, it is the same
 counted : (f : ℕ → Bool) (n : ℕ) (l : List ℕ) → sumBelow n (λ j. elim (f j) [ true ↦ times j l | false ↦ 0 ]) ≡ hits f n l
 unfolding hits times
-counted f n [] = sum-zero n _ (λ j _. none (f j))
+counted f n [] = sum-zero n _ (λ j _. either (f j))
   where
-    none : (b : Bool) → _≡_ {A = ℕ} (elim b [ true ↦ 0 | false ↦ 0 ]) 0
-    none true = refl
-    none false = refl
+    either : (b : Bool) → _≡_ {A = ℕ} (elim b [ true ↦ 0 | false ↦ 0 ]) 0
+    either true = refl
+    either false = refl
 counted f n (x ∷ l) =
     sum-ext n _ _ (λ j _. hit-step (f j) (eqb x j) (times j l))
     ∙ sum-add n (λ j. one (f j && eqb x j)) (λ j. elim (f j) [ true ↦ times j l | false ↦ 0 ])
@@ -88,12 +89,16 @@ module _ (J : Jobs) (table : List ℕ) (f : Feasible J table) where
   pub feasible-room : (a b : ℕ) → volumeInside J a b ≤ b - a
   unfolding volumeInside volumeIf
   feasible-room a b =
-      let sums : volumeInside J a b ≡ hits inside (count J) table = sum-ext (count J) (volumeIf J a b) (λ j. elim (inside j) [ true ↦ times j table | false ↦ 0 ]) (λ j l. ap (λ (v : ℕ). elim (inside j) [ true ↦ v | false ↦ 0 ]) (sym (f .exact j l))) ∙ counted inside (count J) table in
+      let sums : volumeInside J a b ≡ hits inside (count J) table =
+      sum-ext (count J) (volumeIf J a b) (λ j. elim (inside j) [ true ↦ times j table | false ↦ 0 ]) same ∙ counted inside (count J) table in
       let room = hits-most inside (count J) a b table 0 stands in
       omega (arith, room .1)
     where
       inside : ℕ → Bool
       inside j = leb a (release J j) && leb (deadline J j) b
+
+      same : (j : ℕ) → j < count J → volumeIf J a b j ≡ elim (inside j) [ true ↦ times j table | false ↦ 0 ]
+      same j l = ap (λ (v : ℕ). elim (inside j) [ true ↦ v | false ↦ 0 ]) (sym (f .exact j l))
 
       stands : (t : ℕ) → t < length table → getD table t 0 < count J → inside (getD table t 0) ≡ true → (a ≤ 0 + t) × (0 + t < b)
       stands t l k e =
@@ -104,6 +109,9 @@ module _ (J : Jobs) (table : List ℕ) (f : Feasible J table) where
   -- so a list with a feasible table has no overloaded interval
   pub feasible-no-overload : (a b : ℕ) → overloaded J a b ≡ false
   feasible-no-overload a b = not-overfull J a b (λ o. omega (arith, o .more, feasible-room a b))
+
+  pub feasible-none-shown : shownOverload J ≡ none
+  feasible-none-shown = none-shown J feasible-no-overload
 
   pub feasible-placement : count J ≤ 64 → Placement J (awakeOf table) table
   feasible-placement few = record { long = f .long; in-set = in-set; own = f .own; often = λ j l. omega (arith, f .exact j l) }

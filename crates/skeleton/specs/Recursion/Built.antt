@@ -60,7 +60,8 @@ module _ (due : ℕ → ℕ → Bool) (q : ℕ) where
   built-length zero b t c = ap length (built-end due q b t c)
   built-length (suc k) b t c = go (first k b t c) (built-length k true (suc t) (suc t)) (built-length k false (suc t) c)
     where
-      go : Wakes k b t c ⊎ Sleeps k b t c → length (B k true (suc t) (suc t)) ≡ k → length (B k false (suc t) c) ≡ k → length (B (suc k) b t c) ≡ suc k
+      go : Wakes k b t c ⊎ Sleeps k b t c → length (B k true (suc t) (suc t)) ≡ k → length (B k false (suc t) c) ≡ k
+          → length (B (suc k) b t c) ≡ suc k
       go (inl w) on off = ap length (w .is) ∙ ap suc on
       go (inr s) on off = ap length (s .is) ∙ ap suc off
 
@@ -68,7 +69,8 @@ module _ (due : ℕ → ℕ → Bool) (q : ℕ) where
   built-allowed zero b t c = rw (built-end due q b t c) tt
   built-allowed (suc k) b t c = go (first k b t c) (built-allowed k true (suc t) (suc t)) (built-allowed k false (suc t) c)
     where
-      go : Wakes k b t c ⊎ Sleeps k b t c → Allowed due (suc t) (suc t) (B k true (suc t) (suc t)) → Allowed due (suc t) c (B k false (suc t) c) → Allowed due t c (B (suc k) b t c)
+      go : Wakes k b t c ⊎ Sleeps k b t c → Allowed due (suc t) (suc t) (B k true (suc t) (suc t)) → Allowed due (suc t) c (B k false (suc t) c)
+          → Allowed due t c (B (suc k) b t c)
       go (inl w) on off = rw (w .is) on
       go (inr s) on off = rw (s .is) (s .free, off)
 
@@ -76,26 +78,31 @@ module _ (due : ℕ → ℕ → Bool) (q : ℕ) where
   built-costs zero b t c = ap (cost q b) (built-end due q b t c) ∙ cost-end q b ∙ sym (least-end due q b t c)
   built-costs (suc k) b t c = go (first k b t c) (built-costs k true (suc t) (suc t)) (built-costs k false (suc t) c)
     where
-      go : Wakes k b t c ⊎ Sleeps k b t c → cost q true (B k true (suc t) (suc t)) ≡ L k true (suc t) (suc t) → cost q false (B k false (suc t) c) ≡ L k false (suc t) c → cost q b (B (suc k) b t c) ≡ L (suc k) b t c
+      go : Wakes k b t c ⊎ Sleeps k b t c → cost q true (B k true (suc t) (suc t)) ≡ L k true (suc t) (suc t)
+          → cost q false (B k false (suc t) c) ≡ L k false (suc t) c → cost q b (B (suc k) b t c) ≡ L (suc k) b t c
       go (inl w) on off = ap (cost q b) (w .is) ∙ cost-awake q b _ ∙ ap (λ (n : ℕ). price q b + suc n) on ∙ sym (w .value)
       go (inr s) on off = ap (cost q b) (s .is) ∙ cost-sleep q b _ ∙ off ∙ sym (s .value)
 
 module _ (due : ℕ → ℕ → Bool) (q : ℕ) (rises : (c c′ t : ℕ) → c ≤ c′ → due c′ t ≡ true → due c t ≡ true) where
-  pub built-precedes : (k : ℕ) (b : Bool) (t c : ℕ) (S : List Bool) → length S ≡ k → Allowed due t c S → cost q b S ≡ L due q k b t c → Precedes (B due q k b t c) S
+  pub built-precedes : (k : ℕ) (b : Bool) (t c : ℕ) (S : List Bool) → length S ≡ k → Allowed due t c S → cost q b S ≡ L due q k b t c
+      → Precedes (B due q k b t c) S
   built-precedes zero b t c [] n ok e = rw (built-end due q b t c) tt
   built-precedes zero b t c (x ∷ S) n ok e = absurd (omega arith)
   built-precedes (suc k) b t c [] n ok e = absurd (omega arith)
   built-precedes (suc k) b t c (false ∷ S) n ok e = go (first due q k b t c) (built-precedes k false (suc t) c S (omega arith) (ok .1))
     where
-      go : Wakes due q k b t c ⊎ Sleeps due q k b t c → (cost q false S ≡ L due q k false (suc t) c → Precedes (B due q k false (suc t) c) S) → Precedes (B due q (suc k) b t c) (false ∷ S)
+      go : Wakes due q k b t c ⊎ Sleeps due q k b t c → (cost q false S ≡ L due q k false (suc t) c → Precedes (B due q k false (suc t) c) S)
+          → Precedes (B due q (suc k) b t c) (false ∷ S)
       go (inl w) ih = absurd (late (w .dearer))
         where
           late : (due c t ≡ true) ⊎ (L due q (suc k) b t c < L due q (suc k) false t c) → ⊥
           late (inl d) = true-not-false (due c t) d (ok .0)
-          late (inr l) = omega (arith, least-sleeps due q k t c (ok .0), cost-sleep q b S, allowed-costs due q rises k false (suc t) c S (omega arith) (ok .1))
+          late (inr l) =
+              omega (arith, least-sleeps due q k t c (ok .0), cost-sleep q b S, allowed-costs due q rises k false (suc t) c S (omega arith) (ok .1))
       go (inr s) ih = rw (s .is) (ih (sym (cost-sleep q b S) ∙ e ∙ s .value))
   built-precedes (suc k) b t c (true ∷ S) n ok e = go (first due q k b t c) (built-precedes k true (suc t) (suc t) S (omega arith) ok)
     where
-      go : Wakes due q k b t c ⊎ Sleeps due q k b t c → (cost q true S ≡ L due q k true (suc t) (suc t) → Precedes (B due q k true (suc t) (suc t)) S) → Precedes (B due q (suc k) b t c) (true ∷ S)
+      go : Wakes due q k b t c ⊎ Sleeps due q k b t c → (cost q true S ≡ L due q k true (suc t) (suc t) → Precedes (B due q k true (suc t) (suc t)) S)
+          → Precedes (B due q (suc k) b t c) (true ∷ S)
       go (inl w) ih = rw (w .is) (ih (omega (arith, w .value, cost-awake q b S)))
       go (inr s) ih = rw (s .is) tt

@@ -83,11 +83,13 @@ module _ (due : ℕ → ℕ → Bool) (q : ℕ) where
   built-sleeps k t c e = built-off k false t c (rw e)
 
   -- to go on is cheaper
-  pub built-goes-on : (k t c : ℕ) → due c t ≡ false → suc (L k true (suc t) (suc t)) < L (suc k) false t c → B (suc k) true t c ≡ true ∷ B k true (suc t) (suc t)
+  pub built-goes-on : (k t c : ℕ) → due c t ≡ false → suc (L k true (suc t) (suc t)) < L (suc k) false t c
+      → B (suc k) true t c ≡ true ∷ B k true (suc t) (suc t)
   unfolding wakesAt
-  built-goes-on k t c e l = built-on k true t c (rw (e, lt-ltb _ _ l))
+  built-goes-on k t c e l = built-on k true t c (rw e (lt-ltb _ _ l))
 
   -- to end is not dearer
-  pub built-ends : (k t c : ℕ) → due c t ≡ false → L (suc k) false t c ≤ suc (L k true (suc t) (suc t)) → B (suc k) true t c ≡ false ∷ B k false (suc t) c
+  pub built-ends : (k t c : ℕ) → due c t ≡ false → L (suc k) false t c ≤ suc (L k true (suc t) (suc t))
+      → B (suc k) true t c ≡ false ∷ B k false (suc t) c
   unfolding wakesAt
-  built-ends k t c e l = built-off k true t c (rw (e, le-ltb _ _ l))
+  built-ends k t c e l = built-off k true t c (rw e (le-ltb _ _ l))

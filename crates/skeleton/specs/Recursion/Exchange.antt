@@ -69,11 +69,25 @@ module _ (due : ℕ → ℕ → Bool) (q : ℕ) (rises : (c c′ t : ℕ) → c 
       (λ e. omega (arith, least-due due q k t c e))
       (λ e. omega (arith, least-sleeps due q k t c e, exchange k .wake (suc t) c))
 
+  -- what is left costs no more one slot later
+
+  pub later-sleep : (k t : ℕ) → L k false (suc t) (suc t) ≤ L (suc k) false t t
+  later-sleep k t =
+      by-bool (due t t)
+      (λ e. omega (arith, least-due due q k t t e, exchange k .wake (suc t) (suc t)))
+      (λ e. omega (arith, least-sleeps due q k t t e, exchange k .later (suc t) t (suc t) (omega arith)))
+
+  pub later-wake : (k t : ℕ) → L k true (suc t) (suc t) ≤ L (suc k) true t t
+  later-wake k t = omega (arith, least-awake due q k t t, awake-le k (exchange k) t t (omega arith))
+
   each-costs : (b : Bool) (t c : ℕ) (S : List Bool) → Allowed due t c S → L (length S) b t c ≤ cost q b S
   each-costs b t c [] ok = omega (arith, least-end due q b t c)
-  each-costs false t c (false ∷ S) ok = omega (arith, least-sleeps due q (length S) t c (ok .0), cost-sleep q false S, each-costs false (suc t) c S (ok .1))
+  each-costs false t c (false ∷ S) ok =
+      omega (arith, least-sleeps due q (length S) t c (ok .0), cost-sleep q false S, each-costs false (suc t) c S (ok .1))
   each-costs false t c (true ∷ S) ok = omega (arith, wake-early (length S) t c, cost-awake q false S, each-costs true (suc t) (suc t) S ok)
-  each-costs true t c (false ∷ S) ok = omega (arith, least-true-le due q (suc (length S)) t c, least-sleeps due q (length S) t c (ok .0), cost-sleep q true S, each-costs false (suc t) c S (ok .1))
+  each-costs true t c (false ∷ S) ok =
+      let le = least-true-le due q (suc (length S)) t c in
+      omega (arith, least-sleeps due q (length S) t c (ok .0), cost-sleep q true S, each-costs false (suc t) c S (ok .1))
   each-costs true t c (true ∷ S) ok = omega (arith, least-awake due q (length S) t c, cost-awake q true S, each-costs true (suc t) (suc t) S ok)
 
   pub allowed-costs : (k : ℕ) (b : Bool) (t c : ℕ) (S : List Bool) → length S ≡ k → Allowed due t c S → L k b t c ≤ cost q b S

@@ -205,7 +205,9 @@ module _ (J : Jobs) (one : AlwaysOne J) where
       go (no l) = omega arith
   woken-in-full (suc n) S e k v f = go (ltb (workable J S) (totalVolume J)) refl (nextWake J S) refl (woken-in-full n)
     where
-      go : (short : Bool) → ltb (workable J S) (totalVolume J) ≡ short → (o : Option ℕ) → nextWake J S ≡ o → ((R : List Bool) → length R ≡ J .horizon → isSkeleton J R ≡ true → workable J R ≤ totalVolume J → J .horizon ≤ awakeSlots R + n → workable J (wakeAll R (wokenIn n J R)) ≡ totalVolume J) → workable J (wakeAll S (elim short [ false ↦ [] | true ↦ elim o [ none ↦ [] | some t ↦ t ∷ wokenIn n J (wakeSlot S t) ] ])) ≡ totalVolume J
+      go : (short : Bool) → ltb (workable J S) (totalVolume J) ≡ short → (o : Option ℕ) → nextWake J S ≡ o
+          → ((R : List Bool) → length R ≡ J .horizon → isSkeleton J R ≡ true → workable J R ≤ totalVolume J → J .horizon ≤ awakeSlots R + n → workable J (wakeAll R (wokenIn n J R)) ≡ totalVolume J)
+          → workable J (wakeAll S (elim short [ false ↦ [] | true ↦ elim o [ none ↦ [] | some t ↦ t ∷ wokenIn n J (wakeSlot S t) ] ])) ≡ totalVolume J
       go false s o g ih = omega (arith, ltb-false (workable J S) (totalVolume J) s)
       go true s none g ih = absurd (next-found S e k (ltb-true _ _ s) g)
       go true s (some t) g ih =

@@ -80,7 +80,8 @@ met-opens-later J j t b S l m = go (m .at) (m .from) (m .upto) (m .on)
     go zero f u e = absurd (omega arith)
     go (suc i) f u e = record { at = i; from = omega arith; upto = omega arith; on = e }
 
-allowed-met : (J : Jobs) → Passes J → (t c : ℕ) (S : List Bool) (j : ℕ) → j < count J → c ≤ windowStart J j → t ≤ windowEnd J j → windowEnd J j < t + length S → Allowed (due J) t c S → Met J j t S
+allowed-met : (J : Jobs) → Passes J → (t c : ℕ) (S : List Bool) (j : ℕ) → j < count J → c ≤ windowStart J j → t ≤ windowEnd J j
+    → windowEnd J j < t + length S → Allowed (due J) t c S → Met J j t S
 allowed-met J p t c [] j l o u w ok = absurd (omega arith)
 allowed-met J p t c (false ∷ S) j l o u w ok = met-later J j t false S (allowed-met J p (suc t) c S j l o later (omega arith) (ok .1))
   where
@@ -93,30 +94,43 @@ allowed-met J p t c (false ∷ S) j l o u w ok = met-later J j t false S (allowe
 
     later : suc t ≤ windowEnd J j
     later = go (decLe (suc t) (windowEnd J j))
-allowed-met J p t c (true ∷ S) j l o u w ok = go (decLe (windowStart J j) t) (λ h. allowed-met J p (suc t) (suc t) S j l h (omega (arith, window-opens J p j l)) (omega arith) ok)
+allowed-met J p t c (true ∷ S) j l o u w ok =
+    go (decLe (windowStart J j) t) (λ h. allowed-met J p (suc t) (suc t) S j l h (omega (arith, window-opens J p j l)) (omega arith) ok)
   where
     go : Dec (windowStart J j ≤ t) → (suc t ≤ windowStart J j → Met J j (suc t) S) → Met J j t (true ∷ S)
     go (yes h) ih = record { at = 0; from = omega arith; upto = omega arith; on = refl }
     go (no n) ih = met-later J j t true S (ih (omega arith))
 
-met-allowed : (J : Jobs) (t c : ℕ) (S : List Bool) → c ≤ t → ((j : ℕ) → j < count J → c ≤ windowStart J j → t ≤ windowEnd J j → Met J j t S) → Allowed (due J) t c S
+met-allowed : (J : Jobs) (t c : ℕ) (S : List Bool) → c ≤ t → ((j : ℕ) → j < count J → c ≤ windowStart J j → t ≤ windowEnd J j → Met J j t S)
+    → Allowed (due J) t c S
 met-allowed J t c [] b met = tt
-met-allowed J t c (false ∷ S) b met = (by-bool (due J c t) late (λ e. e), met-allowed J (suc t) c S (omega arith) (λ j l o u. met-asleep J j t S (met j l o (omega arith))))
+met-allowed J t c (false ∷ S) b met =
+    (by-bool (due J c t) late (λ e. e), met-allowed J (suc t) c S (omega arith) (λ j l o u. met-asleep J j t S (met j l o (omega arith))))
   where
     late : due J c t ≡ true → due J c t ≡ false
-    late e = let h = due-job J c t e in let m = met-asleep J (h .job) t S (met (h .job) (h .listed) (h .opens) (omega (arith, h .closes))) in absurd (omega (arith, h .closes, m .upto))
-met-allowed J t c (true ∷ S) b met = met-allowed J (suc t) (suc t) S (omega arith) (λ j l o u. met-opens-later J j t true S o (met j l (omega arith) (omega arith)))
+    late e =
+        let h = due-job J c t e in
+        let m = met-asleep J (h .job) t S (met (h .job) (h .listed) (h .opens) (omega (arith, h .closes))) in
+        absurd (omega (arith, h .closes, m .upto))
+met-allowed J t c (true ∷ S) b met =
+    met-allowed J (suc t) (suc t) S (omega arith) (λ j l o u. met-opens-later J j t true S o (met j l (omega arith) (omega arith)))
 
-pub skeleton-allowed : (J : Jobs) (S : List Bool) → Passes J → length S ≡ J .horizon → isSkeleton J S ≡ true → Allowed (due J) 0 0 S
+pub skeleton-allowed : (J : Jobs) (S : List Bool) → isSkeleton J S ≡ true → Allowed (due J) 0 0 S
 unfolding isSkeleton
-skeleton-allowed J S p n e = met-allowed J 0 0 S (omega arith) met
+skeleton-allowed J S e = met-allowed J 0 0 S (omega arith) met
   where
     met : (j : ℕ) → j < count J → 0 ≤ windowStart J j → 0 ≤ windowEnd J j → Met J j 0 S
     met j l o u =
-        let h = any-elim (J .horizon) (λ t. awake S t && inWindow J j t) (all-elim (count J) (λ j. anyBelow (J .horizon) (λ t. awake S t && inWindow J j t)) e j l) in
+        let any = all-elim (count J) (λ j. anyBelow (J .horizon) (λ t. awake S t && inWindow J j t)) e j l in
+        let h = any-elim (J .horizon) (λ t. awake S t && inWindow J j t) any in
         let on = and-true (awake S (h .0)) (inWindow J j (h .0)) (h .2) in
         let in-span = and-true (leb (release J j) (suc (h .0))) (leb (h .0) (deadline J j)) (on .1) in
-        record { at = h .0; from = omega (arith, leb-true (release J j) (suc (h .0)) (in-span .0)); upto = omega (arith, h .1, leb-true (h .0) (deadline J j) (in-span .1)); on = on .0 }
+        record {
+          at = h .0;
+          from = omega (arith, leb-true (release J j) (suc (h .0)) (in-span .0));
+          upto = omega (arith, h .1, leb-true (h .0) (deadline J j) (in-span .1));
+          on = on .0;
+        }
 
 pub allowed-skeleton : (J : Jobs) (S : List Bool) → Passes J → length S ≡ J .horizon → Allowed (due J) 0 0 S → isSkeleton J S ≡ true
 unfolding isSkeleton

@@ -90,7 +90,10 @@ module _ (J : Jobs) (p : Passes J) (b : ℕ) (within : b ≤ J .horizon) where
       go a o (no m) = v .later a (omega arith) o
   start-right (j ∷ js) sum top v = go (leb (deadline J j) b) refl (ltb (b - release J j) (sum + volume J j)) refl (start-right js sum top) (start-right js (sum + volume J j) (release J j))
     where
-      go : (d : Bool) → leb (deadline J j) b ≡ d → (t : Bool) → ltb (b - release J j) (sum + volume J j) ≡ t → (Visited J b js sum top → Starts J b (startFor J b js sum)) → (Visited J b js (sum + volume J j) (release J j) → Starts J b (startFor J b js (sum + volume J j))) → Starts J b (elim d [ false ↦ startFor J b js sum | true ↦ elim t [ true ↦ some (release J j) | false ↦ startFor J b js (sum + volume J j) ] ])
+      go : (d : Bool) → leb (deadline J j) b ≡ d → (t : Bool) → ltb (b - release J j) (sum + volume J j) ≡ t
+          → (Visited J b js sum top → Starts J b (startFor J b js sum))
+          → (Visited J b js (sum + volume J j) (release J j) → Starts J b (startFor J b js (sum + volume J j)))
+          → Starts J b (elim d [ false ↦ startFor J b js sum | true ↦ elim t [ true ↦ some (release J j) | false ↦ startFor J b js (sum + volume J j) ] ])
       go false d t e past next = past (visit-late j js sum top (leb-false (deadline J j) b d) v)
       go true d true e past next = visit-found j js sum top (leb-true (deadline J j) b d) (ltb-true (b - release J j) (sum + volume J j) e) v
       go true d false e past next = next (visit-next j js sum top (leb-true (deadline J j) b d) (ltb-false (b - release J j) (sum + volume J j) e) v)

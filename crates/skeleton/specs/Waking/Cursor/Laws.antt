@@ -119,7 +119,9 @@ module _ (J : Jobs) (stays : StaysIdle J) where
       turn : Bool → Option ℕ → List ℕ
       turn short o = elim short [ false ↦ [] | true ↦ elim o [ none ↦ [] | some x ↦ x ∷ wokenFrom n J (wakeSlot S x) (cursorAfter S x) ] ]
 
-      go : (short : Bool) (o : Option ℕ) → nextWake J S ≡ o → ((x : ℕ) → length (wakeSlot S x) ≡ J .horizon → cursorAfter S x ≤ J .horizon → NoneBefore J (wakeSlot S x) (cursorAfter S x) → wokenFrom n J (wakeSlot S x) (cursorAfter S x) ≡ wokenIn n J (wakeSlot S x)) → turn short o ≡ elim short [ false ↦ [] | true ↦ elim o [ none ↦ [] | some x ↦ x ∷ wokenIn n J (wakeSlot S x) ] ]
+      go : (short : Bool) (o : Option ℕ) → nextWake J S ≡ o
+          → ((x : ℕ) → length (wakeSlot S x) ≡ J .horizon → cursorAfter S x ≤ J .horizon → NoneBefore J (wakeSlot S x) (cursorAfter S x) → wokenFrom n J (wakeSlot S x) (cursorAfter S x) ≡ wokenIn n J (wakeSlot S x))
+          → turn short o ≡ elim short [ false ↦ [] | true ↦ elim o [ none ↦ [] | some x ↦ x ∷ wokenIn n J (wakeSlot S x) ] ]
       go false o q ih = refl
       go true none q ih = refl
       go true (some x) q ih =

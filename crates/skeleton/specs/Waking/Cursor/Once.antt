@@ -127,7 +127,9 @@ module _ (J : Jobs) where
       goal : List ℕ → Type 0
       goal l = (times i l ≤ 1) × (Done S t i → times i l ≡ 0)
 
-      go : (short : Bool) (o : Option ℕ) → nextFrom J S t ≡ o → ((x : ℕ) → length (wakeSlot S x) ≡ J .horizon → (times i (triedFrom n J (wakeSlot S x) (cursorAfter S x)) ≤ 1) × (Done (wakeSlot S x) (cursorAfter S x) i → times i (triedFrom n J (wakeSlot S x) (cursorAfter S x)) ≡ 0)) → goal (elim short [ false ↦ [] | true ↦ elim o [ none ↦ tries S (J .horizon - t) t | some x ↦ tries S (suc x - t) t ++ triedFrom n J (wakeSlot S x) (cursorAfter S x) ] ])
+      go : (short : Bool) (o : Option ℕ) → nextFrom J S t ≡ o
+          → ((x : ℕ) → length (wakeSlot S x) ≡ J .horizon → (times i (triedFrom n J (wakeSlot S x) (cursorAfter S x)) ≤ 1) × (Done (wakeSlot S x) (cursorAfter S x) i → times i (triedFrom n J (wakeSlot S x) (cursorAfter S x)) ≡ 0))
+          → goal (elim short [ false ↦ [] | true ↦ elim o [ none ↦ tries S (J .horizon - t) t | some x ↦ tries S (suc x - t) t ++ triedFrom n J (wakeSlot S x) (cursorAfter S x) ] ])
       go false o q ih = (omega arith, λ d. refl)
       go true none q ih = last (tries-in S (J .horizon - t) t i)
         where
