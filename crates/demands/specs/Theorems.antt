@@ -5,14 +5,11 @@ use mathlib.Core.Bool.{Bool, true, false}
 use mathlib.Core.List.{List, _++_}
 use mathlib.Core.Option.{Option, none, some}
 use native.Mathlib.Omega.{arith}
-use borrow.Author.Tests.{le-ltb}
 use lib.ListN.{length, take, drop}
 use lib.Seq.{take-at}
-use lib.Dec.{ltb}
 use Rattle.sched.specs.Bounded.Laws.{true-not-false}
 use Rattle.sched.specs.Jobs.{Jobs, totalVolume}
 use Rattle.sched.specs.Checks.{Passes}
-use Rattle.sched.specs.Checks.Laws.{passes-passed}
 use Rattle.sched.specs.Slots.{awakeOf}
 use Rattle.sched.specs.Energy.{energy}
 use Rattle.sched.specs.Overload.{overloaded, shownOverload}
@@ -20,41 +17,19 @@ use Rattle.sched.specs.Skeleton.{leastSkeleton}
 use Rattle.sched.specs.Workable.{workable}
 use Rattle.sched.specs.Steps.{woken, extended, tableOf}
 use Rattle.sched.specs.Outcomes.{Plan, figuresOf, planned, stepOne, plan}
-use Rattle.sched.specs.declared.Checked.{Checked}
-use Rattle.sched.specs.declared.Checked.the-variants.{Passed, Refused as Faulty}
-use Rattle.sched.specs.declared.Refusal.the-variants.{TooShort}
+use Rattle.sched.specs.Outcomes.Laws.{plan-starts, step-one-none, step-one-some}
 use Rattle.sched.specs.declared.PlanFigures.{PlanFigures}
 use Rattle.sched.specs.declared.Interval.{Interval}
 use Rattle.sched.specs.declared.Outcome.{Outcome}
-use Rattle.sched.specs.declared.Outcome.the-variants.{Planned, Overloaded, Refused}
+use Rattle.sched.specs.declared.Outcome.the-variants.{Planned, Overloaded}
 use Rattle.edf.specs.Overload.{Overfull}
 use Rattle.edf.specs.Overload.Laws.{shown-none, shown-some, overfull-overloaded}
 use Rattle.edf.specs.Overload.Counting.{feasible-no-overload}
 use Rattle.demands.specs.Rivals.{SaysOverloaded, NoSchedule, HandsOver, AgainstRivals}
 use Rattle.demands.specs.Steps.{added-is-shortfall, plan-feasible, plan-energy}
 
--- a list that passes the checks, lent a long enough table, comes to step 1
-pub plan-starts : (J : Jobs) (lent : List ℕ) → Passes J → J .horizon ≤ length lent → plan J lent ≡ stepOne J lent
-unfolding plan
-plan-starts J lent p m = ap checked (passes-passed J p) ∙ ap long (le-ltb (length lent) (J .horizon) m)
-  where
-    long : Bool → Plan
-    long true = record { answer = Refused (TooShort (J .horizon)); table = lent }
-    long false = stepOne J lent
-    checked : Checked → Plan
-    checked (Faulty r) = record { answer = Refused r; table = lent }
-    checked Passed = long (ltb (length lent) (J .horizon))
-
 planned-not-overloaded : (f : PlanFigures) (i : Interval) → _≡_ {A = Outcome} (Planned f) (Overloaded i) → ⊥
 planned-not-overloaded f i e = let z : _≡_ {A = ℕ} 0 1 = cc in omega arith
-
-step-one-none : (J : Jobs) (lent : List ℕ) → shownOverload J ≡ none → stepOne J lent ≡ planned J lent
-unfolding stepOne
-step-one-none J lent e = rw (e, stepOne)
-
-step-one-some : (J : Jobs) (lent : List ℕ) (i : Interval) → shownOverload J ≡ some i → stepOne J lent ≡ record { answer = Overloaded i; table = lent }
-unfolding stepOne
-step-one-some J lent i e = rw (e, stepOne)
 
 -- an interval is shown: no rival has a schedule
 pub overload-against : (J : Jobs) (i : Interval) (table : List ℕ) → shownOverload J ≡ some i → AgainstRivals J (Overloaded i) table

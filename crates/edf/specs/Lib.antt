@@ -1,5 +1,6 @@
 -- Earliest deadline first. `Theorems` has the statements about the words of 01; the other files lead to them.
 pub mod Run
+pub mod Chain
 pub mod Placed
 pub mod Lacking
 pub mod Pick

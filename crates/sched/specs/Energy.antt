@@ -3,6 +3,9 @@ use Prim.Native.Nat.{ℕ, suc, _+_, _*_}
 use mathlib.Core.Bool.{Bool, true, false}
 use mathlib.Core.List.{List, [], _∷_}
 use Rattle.sched.specs.Jobs.{Jobs}
+use Rattle.sched.specs.Slots.{awakeOf}
+use Rattle.sched.specs.declared.Figures.{Figures}
+pub mod Laws
 
 -- "the number of awake slots"
 unfoldable pub awakeSlots : List Bool → ℕ
@@ -27,3 +30,8 @@ runs J S = runsFrom (start J) S
 -- "Energy is the number of awake slots plus q times the number of runs"
 abbrev pub energy : Jobs → List Bool → ℕ
 energy J S = awakeSlots S + J .wake * runs J S
+
+-- "energy, awake slots and runs" of a table
+abbrev pub tableFigures : Jobs → List ℕ → Figures
+tableFigures J table =
+    record { energy = energy J (awakeOf table); awake = awakeSlots (awakeOf table); runs = runs J (awakeOf table) }

@@ -21,6 +21,7 @@ use Rattle.sched.specs.declared.PlanFigures.{PlanFigures}
 use Rattle.sched.specs.declared.Interval.{Interval}
 use Rattle.sched.specs.declared.Outcome.{Outcome}
 use Rattle.sched.specs.declared.Outcome.the-variants.{Planned, Overloaded, Refused}
+pub mod Laws
 
 -- "energy, awake slots, runs and added; added counts the slots woken in step 3"
 unfoldable pub figuresOf : Jobs → List ℕ → ℕ → PlanFigures

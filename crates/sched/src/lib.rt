@@ -1,7 +1,10 @@
 // The words of the plan that every other crate shares: refusals, figures, and the list checks.
 ghost use mathlib.Core.Path.{_≡_};
 ghost use Rattle.sched.specs.Refusals.{number, place};
+ghost use Prim.Native.Nat.{_≤_};
 ghost use lib.ListN.{length};
+ghost use Rattle.sched.specs.Jobs.{Jobs};
+ghost use Rattle.sched.specs.Energy.{tableFigures};
 ghost use Rattle.sched.specs.Checks.{jobCheck, jobsCheck, listCheck};
 
 // One case for each row of the refusal table that is no overload; each holds its place.
@@ -161,4 +164,34 @@ pub fn check_list(h: u16, releases: &[u16], deadlines: &[u16], volumes: &[u16]) 
         return Checked::Refused(Refusal::OutOfRange(4));
     }
     check_jobs(h, releases, deadlines, volumes)
+}
+
+// What a table of at most 4,096 bytes costs; the processor sleeps before slot 0.
+pub fn cost_of(q: u16, table: &[u8]) -> Figures
+    requires { ⌜ length (now table) ≤ 4096 ⌝ }
+    ensures { λ f. ⌜ ((J : Jobs) → J .wake ≡ q → f ≡ tableFigures J (now (table .entry))) ⌝ }
+{
+    let mut awake: u32 = 0;
+    let mut runs: u32 = 0;
+    let mut on = false;
+    let mut t = 0;
+    while t < table.len() {
+        if table[t] == 255 {
+            on = false;
+            t += 1;
+        } else if on {
+            awake += 1;
+            t += 1;
+        } else {
+            awake += 1;
+            runs += 1;
+            on = true;
+            t += 1;
+        }
+    }
+    Figures {
+        energy: awake + (q as u32) * runs,
+        awake,
+        runs,
+    }
 }

@@ -21,8 +21,8 @@ use Rattle.skeleton.specs.Precedence.Laws.{precedes-differ}
 use Rattle.skeleton.specs.Enumeration.{least-is}
 use Rattle.skeleton.specs.Windows.{due, skeletonEnergy, builtSkeleton}
 use Rattle.skeleton.specs.Windows.Laws.{due-rises, skeleton-allowed, allowed-skeleton}
-use Rattle.skeleton.specs.Order.{Order, byEnd}
-use Rattle.skeleton.specs.Order.Laws.{by-end-order, by-end-length, order-rest}
+use Rattle.skeleton.specs.Order.{Order}
+use Rattle.skeleton.specs.Order.Laws.{order-rest}
 use Rattle.skeleton.specs.Runs.{sleepCost, values, runsOf, spread, valueAt}
 use Rattle.skeleton.specs.Runs.Values.{values-right, awake-right}
 use Rattle.skeleton.specs.Runs.Laws.{runs-built, runs-few}
@@ -93,10 +93,7 @@ least-energy J p = rw (built-is-least J p) (built-energy J)
 pub least-cheapest : (J : Jobs) (S : List Bool) → Passes J → length S ≡ J .horizon → isSkeleton J S ≡ true → energy J (leastSkeleton J) ≤ energy J S
 least-cheapest J S p n e = omega (arith, least-energy J p, skeleton-costs J S n e)
 
--- The least skeleton as runs. Any order of the jobs by the ends of their windows will do; insertion gives one.
-
-pub insertion-orders : (J : Jobs) → Order J (byEnd J (count J))
-insertion-orders J = by-end-order J
+-- The least skeleton as runs. Any order of the jobs by the ends of their windows will do.
 
 -- one number a job gives the recursion's cost of sleep from every slot
 pub values-give-sleep : (J : Jobs) (order : List ℕ) (s : ℕ) → Passes J → Order J order → s ≤ J .horizon
@@ -123,5 +120,5 @@ pub runs-are-least : (J : Jobs) (order : List ℕ) → Passes J → Order J orde
 runs-are-least J order p o = runs-are-built J order p o ∙ sym (built-is-least J p)
 
 -- there are no more runs than jobs
-pub runs-at-most : (J : Jobs) → length (runsOf J 0 (byEnd J (count J)) (values J (byEnd J (count J)))) ≤ count J
-runs-at-most J = omega (arith, runs-few J 0 (byEnd J (count J)) (values J (byEnd J (count J))), by-end-length J (count J))
+pub runs-at-most : (J : Jobs) (order : List ℕ) → length order ≡ count J → length (runsOf J 0 order (values J order)) ≤ count J
+runs-at-most J order n = omega (arith, runs-few J 0 order (values J order))

@@ -1,22 +1,8 @@
--- Numbers in falling order of a key, by insertion in one pass a number: a pass carries one number along and puts it down where a smaller
--- one stands, which it carries on.
-use Prim.Native.Nat.{ℕ, zero, suc, _≤_}
+-- Numbers in falling order of a key.
+use Prim.Native.Nat.{ℕ, suc, _≤_}
 use mathlib.Core.Path.{_≡_}
-use mathlib.Core.Bool.{true, false}
 use mathlib.Core.List.{List, [], _∷_, map}
-use lib.Dec.{ltb}
 use Rattle.sched.specs.Bounded.{sumBelow, total}
-pub mod Laws
-
--- the list with the carried number in it
-unfoldable pub insertBy : (ℕ → ℕ) → ℕ → List ℕ → List ℕ
-insertBy key c [] = c ∷ []
-insertBy key c (x ∷ l) = elim (ltb (key x) (key c)) [ true ↦ c ∷ insertBy key x l | false ↦ x ∷ insertBy key c l ]
-
--- the numbers below n
-unfoldable pub fallingBy : (ℕ → ℕ) → ℕ → List ℕ
-fallingBy key zero = []
-fallingBy key (suc n) = insertBy key n (fallingBy key n)
 
 -- no key of the list is above v
 abbrev pub AtMost : (ℕ → ℕ) → ℕ → List ℕ → Type 0

@@ -12,7 +12,7 @@ use Rattle.sched.specs.declared.Interval.{Interval}
 use Rattle.sched.specs.Bounded.{total}
 use Rattle.sched.specs.Overload.{volumeIf, volumeInside}
 use Rattle.edf.specs.Overload.{Overfull}
-use Rattle.edf.specs.Overload.Order.{fallingBy, AtMost, Falling}
+use Rattle.edf.specs.Overload.Order.{AtMost, Falling}
 pub mod Laws
 
 -- the greatest start for the end b; `sum` is the volume of the jobs with d ≤ b that were visited
@@ -42,8 +42,9 @@ unfoldable pub searchFrom : Jobs → List ℕ → ℕ → ℕ → Option Interva
 searchFrom J order zero j found = found
 searchFrom J order (suc k) j found = searchFrom J order k (suc j) (tryEnd J order (deadline J j) found)
 
-unfoldable pub searchOverload : Jobs → Option Interval
-searchOverload J = searchFrom J (fallingBy (release J) (count J)) (count J) 0 none
+-- the deadlines of all jobs, for jobs ordered by falling release
+abbrev pub searchOverload : Jobs → List ℕ → Option Interval
+searchOverload J order = searchFrom J order (count J) 0 none
 
 -- what holds before the rest of the jobs is visited: no start above `top` was missed, the jobs of the rest are released at `top` or before, and
 -- a start up to there has the visited jobs inside as well as those of the rest

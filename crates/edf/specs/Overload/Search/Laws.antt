@@ -18,8 +18,7 @@ use Rattle.sched.specs.declared.Interval.{Interval}
 use Rattle.edf.specs.Overload.{Overfull, Shows}
 use Rattle.edf.specs.Overload.Laws.{shows, shows-one}
 use Rattle.edf.specs.Overload.Ends.{volume-inside, volume-early, volume-late, to-deadline}
-use Rattle.edf.specs.Overload.Order.{fallingBy, AtMost, InOrder}
-use Rattle.edf.specs.Overload.Order.Laws.{in-order}
+use Rattle.edf.specs.Overload.Order.{AtMost, InOrder}
 use Rattle.edf.specs.Overload.Search.{startFor, withEnd, tryEnd, searchFrom, searchOverload, Visited, Starts, ShowsBelow}
 
 -- jobs released before a have no volume inside
@@ -166,11 +165,7 @@ module _ (J : Jobs) (p : Passes J) (order : List ℕ) (by-release : InOrder (rel
         greatest = s .0 .1;
       }
 
-  pub search-shown : searchFrom J order (count J) 0 none ≡ shownOverload J
+  pub search-shown : searchOverload J order ≡ shownOverload J
   search-shown =
-      shows-one J (searchFrom J order (count J) 0 none) (shownOverload J)
-      (all-shows (searchFrom J order (count J) 0 none) (from-right (count J) 0 none (omega arith) (λ k l a o. omega arith))) (shows J)
-
-pub search-overload : (J : Jobs) → Passes J → searchOverload J ≡ shownOverload J
-unfolding searchOverload
-search-overload J p = search-shown J p (fallingBy (release J) (count J)) (in-order (release J) (count J))
+      shows-one J (searchOverload J order) (shownOverload J)
+      (all-shows (searchOverload J order) (from-right (count J) 0 none (omega arith) (λ k l a o. omega arith))) (shows J)

@@ -1,0 +1,52 @@
+-- 01, "Refused, and where": the faults that the judge looks for in a table, "slots in rising order, at each slot 21, 22, 23; then 24 for the
+-- lowest job". The table here is just the H bytes that are judged; n is the number of jobs, and rs, ds, ps are their fields.
+use Prim.Native.Nat.{ℕ, zero, suc, _≤_}
+use mathlib.Core.Path.{_≡_}
+use mathlib.Core.Bool.{Bool, not, _&&_, _||_}
+use mathlib.Core.List.{List}
+use lib.ListN.{length, getD, take}
+use lib.Dec.{leb, ltb, eqb}
+use Rattle.sched.specs.Slots.{times, idle, asleep}
+use Rattle.sched.specs.Checks.{unless, andThen}
+use Rattle.sched.specs.declared.Checked.{Checked}
+use Rattle.sched.specs.declared.Checked.the-variants.{Passed}
+use Rattle.sched.specs.declared.Refusal.the-variants.{BadByte, TooOften, OutOfSpan, TooRare}
+pub mod Laws
+pub mod Feasibility
+
+-- the fields belong together, and there are no more jobs than counters; a list that passes the list checks has both
+pub record Sized (rs ds ps : List ℕ) : Type 0 where
+  pub same-deadlines : length ds ≡ length rs
+  pub same-volumes : length ps ≡ length rs
+  pub few : length rs ≤ 64
+
+-- the faults at slot t, in their order: r and d are those of the job that the byte names, and `spent` says that earlier slots already
+-- named it p times
+abbrev pub slotFault : ℕ → ℕ → ℕ → ℕ → ℕ → Bool → Checked
+slotFault n r d t byte spent =
+    unless (leb n byte && not (eqb byte idle) && not (eqb byte asleep)) (BadByte t)
+    (unless (ltb byte n && spent) (TooOften t)
+    (unless (ltb byte n && (ltb t r || leb d t)) (OutOfSpan t) Passed))
+
+-- the byte j stands p times or more in these slots
+abbrev pub spentIn : List ℕ → List ℕ → ℕ → Bool
+spentIn ps slots j = leb (getD ps j 0) (times j slots)
+
+abbrev pub slotCheck : List ℕ → List ℕ → List ℕ → List ℕ → ℕ → Checked
+slotCheck rs ds ps table t =
+    let byte = getD table t 0 in
+    slotFault (length rs) (getD rs byte 0) (getD ds byte 0) t byte (spentIn ps (take t table) byte)
+
+-- the k slots from slot t on
+unfoldable pub slotsFrom : ℕ → ℕ → List ℕ → List ℕ → List ℕ → List ℕ → Checked
+slotsFrom zero t rs ds ps table = Passed
+slotsFrom (suc k) t rs ds ps table = andThen (slotCheck rs ds ps table t) (slotsFrom k (suc t) rs ds ps table)
+
+-- 24, "a job stands fewer than p times", for the k jobs from j on; `named` says how often each stands
+unfoldable pub rareFrom : ℕ → ℕ → (ℕ → ℕ) → List ℕ → Checked
+rareFrom zero j named ps = Passed
+rareFrom (suc k) j named ps = unless (ltb (named j) (getD ps j 0)) (TooRare j) (rareFrom k (suc j) named ps)
+
+unfoldable pub tableCheck : List ℕ → List ℕ → List ℕ → List ℕ → Checked
+tableCheck rs ds ps table =
+    andThen (slotsFrom (length table) 0 rs ds ps table) (rareFrom (length rs) 0 (λ j. times j table) ps)

@@ -1,0 +1,24 @@
+-- The front of an array, lent and given back: a function that fills n entries of a local array lends `a[..n]`, and reads it there later.
+use Prim.Native.Nat.{ℕ, _≤_}
+use mathlib.Core.Path.{_≡_, sym, _∙_}
+use mathlib.Core.List.{List, _++_}
+use native.Mathlib.Omega.{arith}
+use lib.ListN.{length, take, drop, length-append}
+use lib.Seq.{length-take-le, take-at}
+
+pub front-length : (n : ℕ) (l : List ℕ) → n ≤ length l → n ≡ length (take n l)
+front-length n l m = sym (length-take-le n l m)
+
+-- s was filled in
+module _ (n : ℕ) (l s : List ℕ) (fits : n ≤ length l) (kept : length s ≡ length (take n l)) where
+  filled-length : length s ≡ n
+  filled-length = kept ∙ length-take-le n l fits
+
+  pub filled-fits : n ≤ length (s ++ drop n l)
+  filled-fits = omega (arith, length-append s (drop n l), filled-length)
+
+  pub filled-front-length : n ≡ length (take n (s ++ drop n l))
+  filled-front-length = front-length n (s ++ drop n l) filled-fits
+
+  pub filled-front : take n (s ++ drop n l) ≡ s
+  filled-front = take-at s (drop n l) n filled-length

@@ -1,0 +1,13 @@
+pub mod Fronts
+pub mod Inserting
+pub mod Sorting
+pub mod LowestBit
+pub mod Readiness
+pub mod SlotBySlot
+pub mod Searching
+pub mod Filling
+pub mod Placing
+pub mod Sleeping
+pub mod Pricing
+pub mod Drawing
+pub mod Marking

@@ -1,0 +1,20 @@
+-- `planner::serving::units` meets its contract: the volumes are copied to an array of zeros.
+use Rattle.planner.proofs.Filling.{units-are}
+use borrow.Author.Needs.{needs}
+use Rattle.planner.proofs.serving.units.Statement.{statement}
+use Rattle.planner.proofs.serving.units.Tie as tie
+use Rattle.planner.proofs.serving.units.Reads as reads
+use Rattle.planner.proofs.serving.units.Lts as lts
+use Rattle.planner.proofs.serving.copy.Reads as copy-reads
+
+slice-aggregate-copy : tie.Need-slice-aggregate-copy
+slice-aggregate-copy c = search needs
+
+copy-requires : tie.Need-copy-requires
+copy-requires c κs = search needs
+
+returns : tie.Need-returns
+returns c = units-are _ _ (c .before .before .before .before .pre) (c .before .copy .ensures)
+
+pub units-spec : {M : Type 1} → statement M
+units-spec = tie.close (tie.spec slice-aggregate-copy copy-requires returns)

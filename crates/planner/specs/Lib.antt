@@ -1,0 +1,9 @@
+-- What the parts of the planner compute, where that is not a definition of `sched` itself.
+pub mod Lists
+pub mod Order
+pub mod Least
+pub mod Mask
+pub mod Ranks
+pub mod Runs
+pub mod Overload
+pub mod Promises

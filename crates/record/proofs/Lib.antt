@@ -1,0 +1,5 @@
+pub mod Bytes
+pub mod Bits
+pub mod Fill
+pub mod Parts
+pub mod Answers

@@ -1,0 +1,129 @@
+-- 01, "Plan record bytes": what the writer puts out for each horizon, table and lent output, and 01's number and values for each answer.
+use Prim.Native.Nat.{ℕ, zero, suc, _+_, _*_, _/_, _%_, _≤_}
+use mathlib.Core.Path.{_≡_}
+use mathlib.Core.Bool.{Bool, true, false, not, _&&_}
+use mathlib.Core.List.{List, [], _∷_, _++_}
+use lib.ListN.{length, getD, take, drop}
+use lib.Dec.{leb, ltb, eqb}
+use Rattle.sched.specs.Bounded.{keep}
+use Rattle.sched.specs.Slots.{awake, awakeOf, asleep}
+use Rattle.sched.specs.Energy.{awakeSlots}
+use Rattle.sched.specs.Refusals.{number, place}
+use Rattle.sched.specs.Checks.{unless, andThen}
+use Rattle.sched.specs.declared.Checked.{Checked}
+use Rattle.sched.specs.declared.Checked.the-variants.{Passed, Refused as Faulty}
+use Rattle.sched.specs.declared.Refusal.the-variants.{OutOfRange, TooShort, BadByte}
+use Rattle.record.specs.declared.RecordWritten.{RecordWritten}
+use Rattle.record.specs.declared.RecordWritten.the-variants.{Written, Refused}
+pub mod Laws
+
+-- "1 for awake"
+abbrev pub bitOf : Bool → ℕ
+bitOf true = 1
+bitOf false = 0
+
+-- the k slots from slot t on as a number, slot t in bit 0; beyond the last slot everything sleeps, so the rest is "padded with 0"
+unfoldable pub bits : ℕ → ℕ → List Bool → ℕ
+bits zero t S = 0
+bits (suc k) t S = bitOf (awake S t) + 2 * bits k (suc t) S
+
+-- the k map bytes from byte m on, eight slots each
+unfoldable pub mapFrom : ℕ → ℕ → List Bool → List ℕ
+mapFrom zero m S = []
+mapFrom (suc k) m S = bits 8 (8 * m) S ∷ mapFrom k (suc m) S
+
+-- the bytes that H bits take
+abbrev pub mapLength : ℕ → ℕ
+mapLength h = (h + 7) / 8
+
+-- "a map of H bits"
+abbrev pub mapOf : List Bool → List ℕ
+mapOf S = mapFrom (mapLength (length S)) 0 S
+
+-- the bytes of the awake slots, "in slot order"
+abbrev pub slotBytes : List ℕ → List ℕ
+slotBytes slots = keep (λ byte. not (eqb byte asleep)) slots
+
+-- "H in two bytes, low first"
+abbrev pub horizonBytes : ℕ → List ℕ
+horizonBytes h = (h % 256) ∷ (h / 256) ∷ []
+
+-- what stands before the slot bytes
+abbrev pub frontOf : ℕ → List ℕ → List ℕ
+frontOf h slots = horizonBytes h ++ mapOf (awakeOf slots)
+
+-- the record of a table of just H bytes: "The slot bytes are written directly behind the map."
+unfoldable pub recordOf : ℕ → List ℕ → List ℕ
+recordOf h slots = frontOf h slots ++ slotBytes slots
+
+-- the record of the first H bytes of a table
+abbrev pub recordBytes : ℕ → List ℕ → List ℕ
+recordBytes h table = recordOf h (take h table)
+
+-- 21, "here only 64 to 253", for the k slots from slot t on
+unfoldable pub bytesFrom : ℕ → ℕ → List ℕ → Checked
+bytesFrom zero t slots = Passed
+bytesFrom (suc k) t slots =
+    let byte = getD slots t 0 in
+    unless (leb 64 byte && leb byte 253) (BadByte t) (bytesFrom k (suc t) slots)
+
+abbrev pub bytesCheck : List ℕ → Checked
+bytesCheck slots = bytesFrom (length slots) 0 slots
+
+-- "12 for H, 17 for the table, 21"
+abbrev pub tableCheck : ℕ → List ℕ → Checked
+tableCheck h table =
+    unless (eqb h 0) (OutOfRange 0)
+    (unless (ltb 4096 h) (OutOfRange 0)
+    (unless (ltb (length table) h) (TooShort h)
+    (bytesCheck (take h table))))
+
+-- 17 for an output that does not hold the record
+abbrev pub roomCheck : List ℕ → List ℕ → Checked
+roomCheck bytes out = unless (ltb (length out) (length bytes)) (TooShort (length bytes)) Passed
+
+-- then "17 for the output"
+abbrev pub writeCheck : ℕ → List ℕ → List ℕ → Checked
+writeCheck h table out = andThen (tableCheck h table) (roomCheck (recordBytes h table) out)
+
+-- the answer for a table of just H bytes: the record's length and the awake slots
+abbrev pub answerTo : ℕ → List ℕ → Checked → RecordWritten
+answerTo h slots Passed = Written (record { bytes = length (recordOf h slots); awake = awakeSlots (awakeOf slots) })
+answerTo h slots (Faulty r) = Refused r
+
+-- a lent buffer with these bytes at its front
+abbrev pub stored : List ℕ → List ℕ → List ℕ
+stored bytes out = bytes ++ drop (length bytes) out
+
+-- the lent output afterwards: "Bytes past the record keep their values", and a refusal changes none
+abbrev pub outAfter : List ℕ → List ℕ → Checked → List ℕ
+outAfter bytes out Passed = stored bytes out
+outAfter bytes out (Faulty r) = out
+
+-- 01's numbers: 0 with the two figures; a refusal's own number with its place
+abbrev pub writtenNumber : RecordWritten → ℕ
+writtenNumber (Written size) = 0
+writtenNumber (Refused r) = number r
+
+abbrev pub writtenValues : RecordWritten → List ℕ
+writtenValues (Written size) = size .bytes ∷ size .awake ∷ []
+writtenValues (Refused r) = place r ∷ []
+
+-- the promise: number and values of the answer, its case, and every byte of the output
+pub record Writes (h : ℕ) (table out : List ℕ) (answer : RecordWritten) (after : List ℕ) : Type 0 where
+  pub number : writtenNumber answer ≡ writtenNumber (answerTo h (take h table) (writeCheck h table out))
+  pub values : writtenValues answer ≡ writtenValues (answerTo h (take h table) (writeCheck h table out))
+  pub same : answer ≡ answerTo h (take h table) (writeCheck h table out)
+  pub bytes : after ≡ outAfter (recordBytes h table) out (writeCheck h table out)
+
+-- what the writer's parts need and promise for a table of just H bytes
+
+-- the output holds the record, whose slot bytes begin at `behind`
+pub record Fits (h : ℕ) (slots : List ℕ) (behind : ℕ) (out : List ℕ) : Type 0 where
+  pub few : length slots ≤ 4096
+  pub start : behind ≡ 2 + mapLength (length slots)
+  pub room : length (recordOf h slots) ≤ length out
+
+pub record WritesSlots (h : ℕ) (slots out : List ℕ) (answer : RecordWritten) (after : List ℕ) : Type 0 where
+  pub same : answer ≡ answerTo h slots (roomCheck (recordOf h slots) out)
+  pub bytes : after ≡ outAfter (recordOf h slots) out (roomCheck (recordOf h slots) out)
