@@ -39,7 +39,7 @@ overload-against J i table e =
       no-schedule = λ s rival f. true-not-false _ (overfull-overloaded J (i .a) (i .b) over) (feasible-no-overload J rival f (i .a) (i .b));
       says-so = λ s. tt;
       interval = λ k q. let same : i ≡ k = cc in subst (λ (x : Interval). Overfull J (x .a) (x .b)) same over;
-      otherwise = λ s. absurd (s tt)
+      otherwise = λ s. absurd (s tt);
     }
 
 -- no interval is shown: the table of steps 2 to 5 is handed over
@@ -52,7 +52,7 @@ plan-against J added p n =
       no-schedule = λ s. absurd s;
       says-so = λ s. absurd (s table f);
       interval = λ i q. absurd (planned-not-overloaded (figuresOf J table added) i q);
-      otherwise = λ s. record { figures = figuresOf J table added; planned = refl; feasible = f; reported = refl; limit = plan-energy J p n }
+      otherwise = λ s. record { figures = figuresOf J table added; planned = refl; feasible = f; reported = refl; limit = plan-energy J p n };
     }
 
 first-bytes : (J : Jobs) (lent : List ℕ) → Passes J → ((a b : ℕ) → overloaded J a b ≡ false) → take (J .horizon) (tableOf J (extended J) ++ drop (J .horizon) lent) ≡ tableOf J (extended J)

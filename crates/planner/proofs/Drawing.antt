@@ -73,9 +73,9 @@ drawn-run table table₁ table₂ s first end a b =
     ap awakeOf (b ∙ ap (λ (r : List ℕ). r ++ replicate (end - first) idle) a ∙ append-assoc (take s table) (replicate (first - s) asleep) (replicate (end - first) idle))
     ∙ map-append (λ byte. not (eqb byte asleep)) (take s table) (replicate (first - s) asleep ++ replicate (end - first) idle)
     ∙ ap (λ (r : List Bool). awakeOf (take s table) ++ r) (
-      map-append (λ byte. not (eqb byte asleep)) (replicate (first - s) asleep) (replicate (end - first) idle)
-      ∙ ap (λ (r : List Bool). r ++ awakeOf (replicate (end - first) idle)) (awake-of-replicate (first - s) asleep)
-      ∙ ap (λ (r : List Bool). replicate (first - s) false ++ r) (awake-of-replicate (end - first) idle))
+    map-append (λ byte. not (eqb byte asleep)) (replicate (first - s) asleep) (replicate (end - first) idle)
+    ∙ ap (λ (r : List Bool). r ++ awakeOf (replicate (end - first) idle)) (awake-of-replicate (first - s) asleep)
+    ∙ ap (λ (r : List Bool). replicate (first - s) false ++ r) (awake-of-replicate (end - first) idle))
 
 spread-to : (h t e u : ℕ) (rs : List Run) → e ≤ u → spread h t (record { first = e; slots = u - e } ∷ rs) ≡ replicate (e - t) false ++ (replicate (u - e) true ++ spread h u rs)
 unfolding spread
@@ -112,10 +112,11 @@ module _ {starts ends untils table₀ : List ℕ} where
           let w = D .windows in
           let last = windowEnd J (getD order i 0) in
           let js = drop (suc i) order in
-          let u = D .until i (omega arith) (omega (arith, starts-many J order starts (w .firsts))) in
-          (omega (arith, start-before starts ends J order w i l),
-           omega (arith, end-at starts ends J order w i l, run-end-from J js (values J js) (suc last)),
-           omega (arith, run-end-inside J (w .passes) js (values J js) (suc last) (order-behind J order (w .serves) (suc i)) (window-within J (w .passes) (getD order i 0)), d .kept, D .long))
+          let u = D .until i (omega arith) (omega (arith, starts-many J order starts (w .firsts))) in (
+            omega (arith, start-before starts ends J order w i l),
+            omega (arith, end-at starts ends J order w i l, run-end-from J js (values J js) (suc last)),
+            omega (arith, run-end-inside J (w .passes) js (values J js) (suc last) (order-behind J order (w .serves) (suc i)) (window-within J (w .passes) (getD order i 0)), d .kept, D .long),
+          )
 
       pub drawing-run : (table′ : List ℕ) → length table′ ≡ length table
           → awakeOf (take (getD untils i 0) table′) ≡ awakeOf (take s table) ++ (replicate (getD ends i 0 - s) false ++ replicate (getD untils i 0 - getD ends i 0) true)
@@ -144,8 +145,8 @@ module _ {starts ends untils table₀ : List ℕ} where
               ∙ ap (λ (q : List Bool). awakeOf (take s table) ++ q) (spread-to (J .horizon) s last end rs (omega (arith, run-end-from J js vs (suc last))) ∙ sym (append-assoc row ones (spread (J .horizon) end rs)))
               ∙ sym (append-assoc (awakeOf (take s table)) (row ++ ones) (spread (J .horizon) end rs))
               ∙ ap (λ (q : List Bool). q ++ spread (J .horizon) end rs) (sym (a
-                ∙ ap (λ (n : ℕ). awakeOf (take s table) ++ (replicate (n - s) false ++ replicate (getD untils i 0 - n) true)) isLast
-                ∙ ap (λ (n : ℕ). awakeOf (take s table) ++ (replicate (last - s) false ++ replicate (n - last) true)) isEnd))
+              ∙ ap (λ (n : ℕ). awakeOf (take s table) ++ (replicate (n - s) false ++ replicate (getD untils i 0 - n) true)) isLast
+              ∙ ap (λ (n : ℕ). awakeOf (take s table) ++ (replicate (last - s) false ++ replicate (n - last) true)) isEnd))
               ∙ ap (λ (n : ℕ). awakeOf (take (getD untils i 0) table′) ++ spread (J .horizon) n (runsOf J n js vs)) (sym isEnd)
 
   pub drawing-end : {table : List ℕ} (table′ : List ℕ) {s i : ℕ} → length starts ≤ i → length table′ ≡ length table
@@ -156,6 +157,6 @@ module _ {starts ends untils table₀ : List ℕ} where
       ap awakeOf (sym (take-all (length table) table′ (omega arith)) ∙ a)
       ∙ map-append (λ byte. not (eqb byte asleep)) (take s table) (replicate (length table - s) asleep)
       ∙ ap (λ (q : List Bool). awakeOf (take s table) ++ q) (awake-of-replicate (length table - s) asleep ∙ ap (λ (n : ℕ). replicate (n - s) false) long
-        ∙ sym (ap (λ (js : List ℕ). spread (J .horizon) s (runsOf J s js (values J (drop i order)))) (drop-of-length-le order {i = i} (omega (arith, starts-many J order starts (w .firsts))))
-          ∙ ap (spread (J .horizon) s) (runs-none J s (values J (drop i order))) ∙ spread-none (J .horizon) s))
+      ∙ sym (ap (λ (js : List ℕ). spread (J .horizon) s (runsOf J s js (values J (drop i order)))) (drop-of-length-le order {i = i} (omega (arith, starts-many J order starts (w .firsts))))
+      ∙ ap (spread (J .horizon) s) (runs-none J s (values J (drop i order))) ∙ spread-none (J .horizon) s))
       ∙ sym (d .done J order w u (sym (d .kept) ∙ long))

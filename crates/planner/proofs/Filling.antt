@@ -78,5 +78,5 @@ pub fill-runnable : (J : Jobs) (order table units : List ℕ) → Fillable J ord
 fill-runnable J order table units f u =
     record {
       short = omega (arith, f .long, f .passes .high);
-      ranks = ranks-of J order units (f .passes .few) (omega (arith, f .passes .few, u .long)) (f .ranks)
+      ranks = ranks-of J order units (f .passes .few) (omega (arith, f .passes .few, u .long)) (f .ranks);
     }

@@ -61,10 +61,11 @@ module _ (q : ℕ) (starts ends numbers rests untils : List ℕ) (i asleep end p
   ending =
       let vs = values J (drop (suc i) order) in
       let first : getD ends i 0 + 1 + asleep ≡ throughCost J (drop (i + 1) order) vs (getD ends i 0 + 1) =
-          ap (λ (n : ℕ). getD ends i 0 + 1 + n) (asleep-is ∙ ap (λ (n : ℕ). sleepCost J n (drop (suc i) order) vs) (sym low) ∙ ap (λ (n : ℕ). sleepCost J (getD ends i 0 + 1) (drop n order) vs) (sym one)) in
-      let e = b J order vs (w .firsts) (λ k f m. d .asleep k (omega arith) m ∙ ap (λ (n : ℕ). sleepCost J (suc (getD starts k 0)) (drop n order) vs) (sym one)) first in
-      (e .0 ∙ ap (λ (n : ℕ). runEnd J (drop n order) vs (getD ends i 0 + 1) (getD ends i 0 + 1) (drop n order)) one ∙ ap (λ (n : ℕ). runEnd J (drop (suc i) order) vs n n (drop (suc i) order)) low,
-       e .1 ∙ ap (λ (n : ℕ). throughCost J (drop n order) vs end) one)
+      ap (λ (n : ℕ). getD ends i 0 + 1 + n) (asleep-is ∙ ap (λ (n : ℕ). sleepCost J n (drop (suc i) order) vs) (sym low) ∙ ap (λ (n : ℕ). sleepCost J (getD ends i 0 + 1) (drop n order) vs) (sym one)) in
+      let e = b J order vs (w .firsts) (λ k f m. d .asleep k (omega arith) m ∙ ap (λ (n : ℕ). sleepCost J (suc (getD starts k 0)) (drop n order) vs) (sym one)) first in (
+        e .0 ∙ ap (λ (n : ℕ). runEnd J (drop n order) vs (getD ends i 0 + 1) (getD ends i 0 + 1) (drop n order)) one ∙ ap (λ (n : ℕ). runEnd J (drop (suc i) order) vs n n (drop (suc i) order)) low,
+        e .1 ∙ ap (λ (n : ℕ). throughCost J (drop n order) vs end) one,
+      )
 
   pub behind-end : windowEnd J (getD order i 0) < end
   behind-end = omega (arith, ending .0, run-end-from J (drop (suc i) order) (values J (drop (suc i) order)) (suc (windowEnd J (getD order i 0))))
@@ -91,8 +92,8 @@ module _ (q : ℕ) (starts ends numbers rests untils : List ℕ) (i asleep end p
         ap (λ (r : List ℕ). sleepCost J (suc a) r (values J (drop i order))) (drop-cons order i 0 (omega (arith, starts-many J order starts (w .firsts))))
         ∙ ap (sleepCost J (suc a) (getD order i 0 ∷ drop (suc i) order)) numbered
         ∙ by-bool (ltb a (getD starts i 0))
-          (λ t. sleep-wakes J (suc a) (getD order i 0) v (drop (suc i) order) vs (omega (arith, ltb-true a (getD starts i 0) t, start-at J order starts (w .firsts) i l)) ∙ ap (λ (n : ℕ). n + v) wake ∙ ap (λ (c : Bool). chosen c (q + v) (getD rests k 0)) (sym t))
-          (λ t. sleep-skips J (suc a) (getD order i 0) v (drop (suc i) order) vs (omega (arith, ltb-false a (getD starts i 0) t, start-at J order starts (w .firsts) i l)) ∙ sym (d .asleep k f m) ∙ ap (λ (c : Bool). chosen c (q + v) (getD rests k 0)) (sym t)))
+        (λ t. sleep-wakes J (suc a) (getD order i 0) v (drop (suc i) order) vs (omega (arith, ltb-true a (getD starts i 0) t, start-at J order starts (w .firsts) i l)) ∙ ap (λ (n : ℕ). n + v) wake ∙ ap (λ (c : Bool). chosen c (q + v) (getD rests k 0)) (sym t))
+        (λ t. sleep-skips J (suc a) (getD order i 0) v (drop (suc i) order) vs (omega (arith, ltb-false a (getD starts i 0) t, start-at J order starts (w .firsts) i l)) ∙ sym (d .asleep k f m) ∙ ap (λ (c : Bool). chosen c (q + v) (getD rests k 0)) (sym t)))
 
     more-untils : Untils J order (set untils i end) i
     more-untils k f m = go (ℕ-discrete k i)
@@ -106,10 +107,10 @@ module _ (q : ℕ) (starts ends numbers rests untils : List ℕ) (i asleep end p
     pub priced-more : Priced starts (set numbers i (paid - getD ends i 0)) rests′ (set untils i end) J order i
     priced-more = record {
       behind =
-        drop-cons (set numbers i (paid - getD ends i 0)) i 0 (omega (arith, length-set numbers i (paid - getD ends i 0)))
-        ∙ ap (λ (v : ℕ). v ∷ drop (suc i) (set numbers i (paid - getD ends i 0))) (getD-set-same numbers i (paid - getD ends i 0) 0 (omega arith))
-        ∙ ap (λ (r : List ℕ). (paid - getD ends i 0) ∷ r) (drop-set-lt (suc i) numbers i (paid - getD ends i 0) (omega arith) ∙ d .behind)
-        ∙ sym numbered;
+          drop-cons (set numbers i (paid - getD ends i 0)) i 0 (omega (arith, length-set numbers i (paid - getD ends i 0)))
+          ∙ ap (λ (v : ℕ). v ∷ drop (suc i) (set numbers i (paid - getD ends i 0))) (getD-set-same numbers i (paid - getD ends i 0) 0 (omega arith))
+          ∙ ap (λ (r : List ℕ). (paid - getD ends i 0) ∷ r) (drop-set-lt (suc i) numbers i (paid - getD ends i 0) (omega arith) ∙ d .behind)
+          ∙ sym numbered;
       asleep = more-asleep;
       until = more-untils;
     }
@@ -161,9 +162,9 @@ module _ {q : ℕ} {starts ends numbers rests untils : List ℕ} {i : ℕ} (p : 
     pub cost-small : asleep ≤ largest
     cost-small =
         let e : asleep ≡ sleepCost (p .J) (getD ends i 0 + 1) (drop (suc i) (p .order)) (values (p .J) (drop (suc i) (p .order))) =
-            s (p .J) (p .order) (p .wake) (p .windows .firsts)
-            ∙ ap (λ (n : ℕ). sleepCost (p .J) (getD ends i 0 + 1) (drop n (p .order)) (drop n numbers)) (add-one i)
-            ∙ ap (sleepCost (p .J) (getD ends i 0 + 1) (drop (suc i) (p .order))) (p .done .behind) in
+        s (p .J) (p .order) (p .wake) (p .windows .firsts)
+        ∙ ap (λ (n : ℕ). sleepCost (p .J) (getD ends i 0 + 1) (drop n (p .order)) (drop n numbers)) (add-one i)
+        ∙ ap (sleepCost (p .J) (getD ends i 0 + 1) (drop (suc i) (p .order))) (p .done .behind) in
         omega (arith, asleep-small (getD ends i 0 + 1))
 
     module _ (end paid : ℕ) (b : EndFrom starts rests (i + 1) (getD ends i 0 + 1) (getD ends i 0 + 1 + asleep) end paid) where

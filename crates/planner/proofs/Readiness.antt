@@ -44,12 +44,13 @@ module _ (F : Spans) (order left : List ℕ) (t : ℕ) where
         bits-are = rw (e, s) (omega (arith, r .bits-are));
         later = b .behind (a .behind (r .later));
         releases = λ i l m. rel i l m (ℕ-discrete i (k - 1));
-        deadlines = λ i l m. dead i l m (ℕ-discrete i (k - 1))
+        deadlines = λ i l m. dead i l m (ℕ-discrete i (k - 1));
       }
     where
       rel : (i : ℕ) → k - 1 ≤ i → i < F .n → Dec (i ≡ k - 1) → Outside t w (F .r (jobAt order i))
       rel i l m (yes q) = rw q (narrower t v w _ (b .most) (a .outside))
       rel i l m (no n) = narrower t u w _ (omega (arith, a .most, b .most)) (r .releases i (omega arith) m)
+
       dead : (i : ℕ) → k - 1 ≤ i → i < F .n → Dec (i ≡ k - 1) → Outside t w (F .d (jobAt order i))
       dead i l m (yes q) = rw q (b .outside)
       dead i l m (no n) = narrower t u w _ (omega (arith, a .most, b .most)) (r .deadlines i (omega arith) m)
@@ -63,10 +64,10 @@ module _ (F : Spans) (order left : List ℕ) (t : ℕ) where
       let e : k ≡ 0 = omega arith in
       record {
         bits-are = r .bits-are ∙ ap (λ (x : ℕ). maskFrom (servesRank F order t (stateOf left)) (F .n - x) x) e
-          ∙ ap (λ (x : ℕ). maskFrom (servesRank F order t (stateOf left)) x 0) (sub-zero (F .n));
+            ∙ ap (λ (x : ℕ). maskFrom (servesRank F order t (stateOf left)) x 0) (sub-zero (F .n));
         quiet = record {
           later = r .later;
           releases = λ i l. r .releases i (omega arith) l;
-          deadlines = λ i l. r .deadlines i (omega arith) l
-        }
+          deadlines = λ i l. r .deadlines i (omega arith) l;
+        };
       }

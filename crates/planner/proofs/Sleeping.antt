@@ -104,6 +104,7 @@ module _ (J : Jobs) (js vs : List ℕ) (low end through c paid end′ through′
           let e : end′ ≡ c = ends ∙ ap (λ (b : Bool). chosen b c end) t in
           let p : through′ ≡ paid = throughs ∙ ap (λ (b : Bool). chosen b paid through) t in
           (run-end-takes J js vs low end k ks (sym test ∙ t) ∙ ap (λ (n : ℕ). runEnd J js vs low n ks) (sym (e ∙ at)), p ∙ here ∙ ap (throughCost J js vs) (sym e))
+
       lost : wins low c paid end through ≡ false → (runEnd J js vs low end (k ∷ ks) ≡ runEnd J js vs low end′ ks) × (through′ ≡ throughCost J js vs end′)
       lost t =
           let e : end′ ≡ end = ends ∙ ap (λ (b : Bool). chosen b c end) t in
@@ -132,7 +133,7 @@ module _ (starts rests : List ℕ) (from low through₀ : ℕ) where
       let one : getD starts k 0 + 1 ≡ suc (getD starts k 0) = add-one (getD starts k 0) in
       let at : getD starts k 0 + 1 ≡ suc (windowStart J (getD order k 0)) = one ∙ ap suc (start-at J order starts e k l) in
       let paid : getD starts k 0 + 1 + getD rests k 0 ≡ throughCost J js vs (getD starts k 0 + 1) =
-          ap (λ (n : ℕ). getD starts k 0 + 1 + n) (r k f l ∙ ap (λ (n : ℕ). sleepCost J n js vs) (sym one)) in
+      ap (λ (n : ℕ). getD starts k 0 + 1 + n) (r k f l ∙ ap (λ (n : ℕ). sleepCost J n js vs) (sym one)) in
       let turn = end-turn J js vs low end through (getD starts k 0 + 1) (getD starts k 0 + 1 + getD rests k 0) end′ through′ (getD order k 0) (drop (suc k) order) at paid (i .1) a b in
       (i .0 ∙ ap (runEnd J js vs low end) (drop-cons order k 0 (omega (arith, starts-many J order starts e))) ∙ turn .0 ∙ ap (λ (n : ℕ). runEnd J js vs low end′ (drop n order)) (sym (add-one k)), turn .1)
 

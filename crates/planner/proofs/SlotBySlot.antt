@@ -30,12 +30,12 @@ module _ (F : Spans) (order : List ℕ) where
   next-ready left t bits u r l =
       record {
         bits-are = r .bits-are ∙ mask-alike (servesRank F order t (stateOf left)) (servesRank F order (suc t) (stateOf left)) (F .n)
-          (λ k b. sym (quiet-alike F order t u (r .quiet) (suc t) k (stateOf left) (omega arith) l b));
+            (λ k b. sym (quiet-alike F order t u (r .quiet) (suc t) k (stateOf left) (omega arith) l b));
         quiet = record {
           later = l;
           releases = λ k b. later t u _ (r .quiet .releases k b);
-          deadlines = λ k b. later t u _ (r .quiet .deadlines k b)
-        }
+          deadlines = λ k b. later t u _ (r .quiet .deadlines k b);
+        };
       }
 
   -- a sleeping slot serves nothing
@@ -47,7 +47,7 @@ module _ (F : Spans) (order : List ℕ) where
         table-is = rw off (sym (ap (set table t) (sym e) ∙ set-getD table t 0));
         left-is = rw off;
         left-long = refl;
-        current = λ l. next-ready left t bits u (c (omega arith)) l
+        current = λ l. next-ready left t bits u (c (omega arith)) l;
       }
 
   -- an awake slot serves the lowest of its ranks
@@ -60,8 +60,8 @@ module _ (F : Spans) (order : List ℕ) where
         left-long = long;
         current = λ l. next-ready left′ t bits′ u (record {
           bits-are = s .bits-are ∙ rw (s .left-is) (bits-served F order left ranks t bits (r .bits-are));
-          quiet = r .quiet
-        }) l
+          quiet = r .quiet;
+        }) l;
       }
 
   -- the whole run
@@ -70,8 +70,13 @@ module _ (F : Spans) (order : List ℕ) where
   run-starts left table =
       let z : length table - 0 ≡ length table = omega arith in
       record {
-        within = omega arith; same-long = refl; left-long = refl; rest = λ i l. refl;
-        all = rw z; ends = rw z; current = λ l. absurd (omega arith)
+        within = omega arith;
+        same-long = refl;
+        left-long = refl;
+        rest = λ i l. refl;
+        all = rw z;
+        ends = rw z;
+        current = λ l. absurd (omega arith);
       }
 
   ranks-stay : (left left′ : List ℕ) → length left′ ≡ length left → Ranked F order left → Ranked F order left′
@@ -103,14 +108,14 @@ module _ (F : Spans) (order : List ℕ) where
         left-long = d .left-long ∙ r .left-long;
         rest = λ i m. rw (d .table-is) (getD-set-other table t i _ 0 (λ e. omega arith)) ∙ r .rest i (omega arith);
         all = r .all ∙ ap (λ (x : ℕ). take t table ++ bytes F S x t (stateOf left)) more
-          ∙ ap (λ (x : List ℕ). take t table ++ x) (bytes-turn S (length table₀ - (t + 1)) t (stateOf left) (stateOf left′) b on (d .left-is))
-          ∙ sym (append-snoc (take t table) (slotByte b (chosen F b t (stateOf left))) (bytes F S (length table₀ - (t + 1)) (suc t) (stateOf left′)))
-          ∙ ap (λ (x : List ℕ). x ++ bytes F S (length table₀ - (t + 1)) (suc t) (stateOf left′)) (taken t (slotByte b (chosen F b t (stateOf left))) l (d .table-is))
-          ∙ ap (λ (x : ℕ). take x table′ ++ bytes F S (length table₀ - (t + 1)) x (stateOf left′)) (sym one);
+            ∙ ap (λ (x : List ℕ). take t table ++ x) (bytes-turn S (length table₀ - (t + 1)) t (stateOf left) (stateOf left′) b on (d .left-is))
+            ∙ sym (append-snoc (take t table) (slotByte b (chosen F b t (stateOf left))) (bytes F S (length table₀ - (t + 1)) (suc t) (stateOf left′)))
+            ∙ ap (λ (x : List ℕ). x ++ bytes F S (length table₀ - (t + 1)) (suc t) (stateOf left′)) (taken t (slotByte b (chosen F b t (stateOf left))) l (d .table-is))
+            ∙ ap (λ (x : ℕ). take x table′ ++ bytes F S (length table₀ - (t + 1)) x (stateOf left′)) (sym one);
         ends = r .ends ∙ ap (λ (x : ℕ). final F S x t (stateOf left)) more
-          ∙ final-turn S (length table₀ - (t + 1)) t (stateOf left) (stateOf left′) b on (d .left-is)
-          ∙ ap (λ (x : ℕ). final F S (length table₀ - (t + 1)) x (stateOf left′)) (sym one);
-        current = rw one (d .current)
+            ∙ final-turn S (length table₀ - (t + 1)) t (stateOf left) (stateOf left′) b on (d .left-is)
+            ∙ ap (λ (x : ℕ). final F S (length table₀ - (t + 1)) x (stateOf left′)) (sym one);
+        current = rw one (d .current);
       }
     where
       taken : (s v : ℕ) → s < length table → table′ ≡ set table s v → take s table ++ (v ∷ []) ≡ take (suc s) table′
@@ -123,5 +128,5 @@ module _ (F : Spans) (order : List ℕ) where
       record {
         table-is = sym (r .all ∙ ap (λ (x : ℕ). take t table ++ bytes F (awake (awakeOf table₀)) x t (stateOf left)) z ∙ append-nil (take t table) ∙ take-all t table l);
         left-is = sym (r .ends ∙ ap (λ (x : ℕ). final F (awake (awakeOf table₀)) x t (stateOf left)) z);
-        left-long = r .left-long
+        left-long = r .left-long;
       }

@@ -14,6 +14,7 @@ ghost use Rattle.planner.specs.Lists.{jobsOf};
 ghost use Rattle.planner.specs.Least.{chosen, wins, largest, Small, Placeable, SleepFrom, EndFrom, Windows, Priceable, Step, Fresh, Untils, Drawable, Drawn, Markable, Marked};
 
 const AWAKE: u8 = 254;
+
 const ASLEEP: u8 = 255;
 
 // The first and the last slot of a job's window.
@@ -129,7 +130,15 @@ fn wake_for(first: u16, cost: u32, starts: &[u16], rests: &mut [u32])
 }
 
 // Place i joins the priced places behind it.
-fn price(q: u16, starts: &[u16], ends: &[u16], values: &mut [u32], rests: &mut [u32], untils: &mut [u16], i: usize)
+fn price(
+    q: u16,
+    starts: &[u16],
+    ends: &[u16],
+    values: &mut [u32],
+    rests: &mut [u32],
+    untils: &mut [u16],
+    i: usize,
+)
     requires { ⌜ Priceable q (now starts) (now ends) (now values) (now rests) (now untils) i ⌝ }
     ensures { λ r. ⌜ Step q (now (starts .entry)) (now (ends .entry)) (now (values .entry)) (now (rests .entry)) (now (untils .entry)) (now (values .exit)) (now (rests .exit)) (now (untils .exit)) i ⌝ }
 {
@@ -144,7 +153,14 @@ fn price(q: u16, starts: &[u16], ends: &[u16], values: &mut [u32], rests: &mut [
 }
 
 // The end of the run that begins at the end of each window.
-fn price_all(q: u16, starts: &[u16], ends: &[u16], values: &mut [u32], rests: &mut [u32], untils: &mut [u16])
+fn price_all(
+    q: u16,
+    starts: &[u16],
+    ends: &[u16],
+    values: &mut [u32],
+    rests: &mut [u32],
+    untils: &mut [u16],
+)
     requires { ⌜ Fresh q (now starts) (now ends) (now values) (now rests) (now untils) ⌝ }
     ensures { λ r. ⌜ ((J : Jobs) (order : List ℕ) → Windows (now (starts .entry)) (now (ends .entry)) J order → J .wake ≡ q → Untils J order (now (untils .exit)) 0) ⌝ }
 {
@@ -204,7 +220,14 @@ fn mark_windows(q: u16, starts: &[u16], ends: &[u16], table: &mut [u8])
     let mut values = [0u32; 64];
     let mut rests = [0u32; 64];
     let mut untils = [0u16; 64];
-    price_all(q, starts, ends, &mut values[..n], &mut rests[..n], &mut untils[..n]);
+    price_all(
+        q,
+        starts,
+        ends,
+        &mut values[..n],
+        &mut rests[..n],
+        &mut untils[..n],
+    );
     draw(starts, ends, &untils[..n], table);
 }
 
@@ -220,6 +243,12 @@ pub fn mark(h: u16, q: u16, releases: &[u16], deadlines: &[u16], volumes: &[u16]
     order::sort(&keys[..n], &mut order[..n]);
     let mut starts = [0u16; 64];
     let mut ends = [0u16; 64];
-    by_place(releases, &keys[..n], &order[..n], &mut starts[..n], &mut ends[..n]);
+    by_place(
+        releases,
+        &keys[..n],
+        &order[..n],
+        &mut starts[..n],
+        &mut ends[..n],
+    );
     mark_windows(q, &starts[..n], &ends[..n], table);
 }

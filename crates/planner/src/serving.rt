@@ -13,6 +13,7 @@ ghost use Rattle.planner.specs.Ranks.{spansOf, Outside, ReadyAt, Ranked,
 ghost use Rattle.planner.specs.Runs.{Sooner, Serves, Current, SlotReady, SlotDone, Runnable, RunDone, Units, Fillable};
 
 const ASLEEP: u8 = 255;
+
 const IDLE: u8 = 254;
 
 // The ranks that a slot may serve, a bit each; but for what is served they stay so until slot `until`.
@@ -81,20 +82,33 @@ fn serve(mask: u64, left: &mut [u16], order: &[u8]) -> Served
     ensures { λ r. ⌜ Serves mask (now (order .entry)) (now (left .entry)) (r .byte) (r .mask) (now (left .exit)) ⌝ }
 {
     if mask == 0 {
-        return Served { byte: IDLE, mask: 0 };
+        return Served {
+            byte: IDLE,
+            mask: 0,
+        };
     }
     let rank = u64::trailing_zeros(mask);
     let byte = order[rank as usize];
     let job = byte as usize;
     left[job] -= 1;
     if left[job] == 0 {
-        return Served { byte, mask: mask - (1u64 << rank) };
+        return Served {
+            byte,
+            mask: mask - (1u64 << rank),
+        };
     }
     Served { byte, mask }
 }
 
 // What slot t may serve: as it was last, or looked at anew.
-fn current(t: usize, last: Ready, releases: &[u16], deadlines: &[u16], left: &[u16], order: &[u8]) -> Ready
+fn current(
+    t: usize,
+    last: Ready,
+    releases: &[u16],
+    deadlines: &[u16],
+    left: &[u16],
+    order: &[u8],
+) -> Ready
     requires { ⌜ (length (now deadlines) ≡ length (now releases)) × (t < 65536) × Ranked (spansOf (now releases) (now deadlines)) (now order) (now left) × Current (spansOf (now releases) (now deadlines)) (now order) (now left) t (last .mask) (last .until) ⌝ }
     ensures { λ r. ⌜ ReadyAt (spansOf (now (releases .entry)) (now (deadlines .entry))) (now (order .entry)) (now (left .entry)) t (r .mask) (r .until) ⌝ }
 {
@@ -105,7 +119,15 @@ fn current(t: usize, last: Ready, releases: &[u16], deadlines: &[u16], left: &[u
 }
 
 // Serves slot t if it is awake.
-fn slot(t: usize, last: Ready, releases: &[u16], deadlines: &[u16], left: &mut [u16], order: &[u8], table: &mut [u8]) -> Ready
+fn slot(
+    t: usize,
+    last: Ready,
+    releases: &[u16],
+    deadlines: &[u16],
+    left: &mut [u16],
+    order: &[u8],
+    table: &mut [u8],
+) -> Ready
     requires { ⌜ (length (now deadlines) ≡ length (now releases)) × SlotReady (spansOf (now releases) (now deadlines)) (now order) (now left) (now table) t (last .mask) (last .until) ⌝ }
     ensures { λ r. ⌜ SlotDone (spansOf (now (releases .entry)) (now (deadlines .entry))) (now (order .entry)) (now (left .entry)) (now (table .entry)) t (now (left .exit)) (now (table .exit)) (r .mask) (r .until) ⌝ }
 {
@@ -156,7 +178,15 @@ pub fn units(volumes: &[u16]) -> [u16; 64]
 }
 
 // Step 4: the table of a set of awake slots in which all volume can be worked.
-pub fn fill(h: u16, q: u16, releases: &[u16], deadlines: &[u16], volumes: &[u16], order: &[u8], table: &mut [u8])
+pub fn fill(
+    h: u16,
+    q: u16,
+    releases: &[u16],
+    deadlines: &[u16],
+    volumes: &[u16],
+    order: &[u8],
+    table: &mut [u8],
+)
     requires { ⌜ Fillable (jobsOf h q (now releases) (now deadlines) (now volumes)) (now order) (now table) ⌝ }
     ensures { λ r. ⌜ now (table .exit) ≡ tableOf (jobsOf h q (now (releases .entry)) (now (deadlines .entry)) (now (volumes .entry))) (awakeOf (now (table .entry))) ⌝ }
 {

@@ -7,7 +7,7 @@ use mathlib.Core.Bool.{Bool, true, false}
 use mathlib.Core.List.{List, [], _∷_, map}
 use lib.ListN.{length, replicate}
 use Rattle.sched.specs.Bounded.{total, anyBelow, allBelow, sumBelow, maxBelow, leastFrom, lastBelow, keep, firstLeast}
-use Rattle.sched.specs.Jobs.{Jobs}
+use Rattle.sched.specs.Jobs.{Jobs, jobsOf}
 use Rattle.sched.specs.Checks.{checkFrom}
 use Rattle.sched.specs.Slots.{allSets}
 use Rattle.sched.specs.Energy.{awakeSlots, runsFrom}
@@ -29,8 +29,7 @@ job : ℕ → ℕ → ℕ → Job
 job r d p = record { r = r; d = d; p = p }
 
 jobs : ℕ → ℕ → List Job → Jobs
-jobs h q js =
-    record { horizon = h; wake = q; releases = map (λ x. x .r) js; deadlines = map (λ x. x .d) js; volumes = map (λ x. x .p) js }
+jobs h q js = jobsOf h q (map (λ x. x .r) js) (map (λ x. x .d) js) (map (λ x. x .p) js)
 
 -- a worked plan: the slots of the skeleton, the slots woken in order, the table, the number returned and the values with it. Of an overloaded
 -- list 01 gives only the last two, and the table stays as it was lent, here H bytes of 7

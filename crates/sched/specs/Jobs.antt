@@ -12,6 +12,10 @@ pub record Jobs : Type 0 where
   pub deadlines : List ℕ
   pub volumes : List ℕ
 
+-- the list that is lent as two numbers and three lists of fields
+abbrev pub jobsOf : ℕ → ℕ → List ℕ → List ℕ → List ℕ → Jobs
+jobsOf h q rs ds ps = record { horizon = h; wake = q; releases = rs; deadlines = ds; volumes = ps }
+
 abbrev pub count : Jobs → ℕ
 count J = length (J .releases)
 

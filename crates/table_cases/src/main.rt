@@ -458,9 +458,19 @@ fn marks(t: &mut [u8], out: &mut [u8]) {
     horizon(65, 33, t, out);
 }
 
+// Room for the longest table and four bytes behind it.
+fn table() -> [u8; 4100] {
+    [255u8; 4100]
+}
+
+// Room for more than the longest record.
+fn output() -> [u8; 4700] {
+    [0u8; 4700]
+}
+
 fn main() {
-    let mut t = [255u8; 4100];
-    let mut out = [0u8; 4700];
+    let mut t = table();
+    let mut out = output();
     worked_case(&mut out);
     list_faults(&t);
     job_faults(&t);

@@ -31,6 +31,7 @@ module _ (f : ℕ → Bool) where
     where
       m : ℕ
       m = maskFrom f k (suc t)
+
       go : (b : Bool) → f t ≡ b → _≡_ {A = Option ℕ} (elim b [ true ↦ some t | false ↦ leastFrom k (suc t) f ]) (some x) → (leastFrom k (suc t) f ≡ some x → suc t + trailingZeros K (maskFrom f k (suc t)) ≡ x) → t + under ((bit (f t) + 2 * maskFrom f k (suc t)) % 2) (trailingZeros K ((bit (f t) + 2 * maskFrom f k (suc t)) / 2)) ≡ x
       go true q h ih = let s : t ≡ x = cc in rw (q, parity 1 (maskFrom f k (suc t)) (omega arith)) (omega arith)
       go false q h ih = rw (q, parity 0 (maskFrom f k (suc t)) (omega arith), half 0 (maskFrom f k (suc t)) (omega arith)) (omega (arith, ih h))

@@ -29,11 +29,13 @@ module _ (F : Spans) (order left : List ℕ) (ranks : Ranked F order left) (t : 
   pub rank-chosen : (k : ℕ) → leastFrom (F .n) 0 (servesRank F order t L) ≡ some k → (k < F .n) × Chosen F t L (jobAt order k)
   rank-chosen k e =
       let f = least-some (F .n) 0 (servesRank F order t L) k e in
-      let below : k < F .n = omega (arith, f .below) in
-      (below, record {
-        able = eligible F t L (jobAt order k) (ranks .known k below) (f .holds);
-        first = λ j g. before j g (ranks .ranked j (g .below)) (f .first);
-      })
+      let below : k < F .n = omega (arith, f .below) in (
+        below,
+        record {
+          able = eligible F t L (jobAt order k) (ranks .known k below) (f .holds);
+          first = λ j g. before j g (ranks .ranked j (g .below)) (f .first);
+        },
+      )
     where
       before : (j : ℕ) → Eligible F t L j → (i : ℕ) × (i < F .n) × (jobAt order i ≡ j) → ((i : ℕ) → 0 ≤ i → i < k → servesRank F order t L i ≡ false) → First (F .d) (jobAt order k) j
       before j g (i, m, q) none-lower = go (decLt i k)
@@ -62,5 +64,7 @@ module _ (F : Spans) (order : List ℕ) (t u : ℕ) (quiet : Quiet F order t u) 
 
   pub quiet-alike : (s k : ℕ) (L : State) → t ≤ s → s < u → k < F .n → servesRank F order s L k ≡ servesRank F order t L k
   quiet-alike s k L l m b =
-      rw (released-alike s (F .r (jobAt order k)) l m (quiet .releases k b),
-        expired-alike s (F .d (jobAt order k)) l m (quiet .deadlines k b))
+      rw (
+        released-alike s (F .r (jobAt order k)) l m (quiet .releases k b),
+        expired-alike s (F .d (jobAt order k)) l m (quiet .deadlines k b),
+      )

@@ -59,7 +59,7 @@ module _ (F : Spans) (order left : List ℕ) (ranks : Ranked F order left) (t bi
         below = c .0;
         zeros = ap (trailingZeros 64) b ∙ omega (arith, z);
         positive = rw b (some-pos (servesRank F order t (stateOf left)) (F .n) 0 k e);
-        served = c .1
+        served = c .1;
       }
 
   nothing : leastFrom (F .n) 0 (servesRank F order t (stateOf left)) ≡ none → bits ≡ 0
@@ -82,7 +82,7 @@ module _ (F : Spans) (order left : List ℕ) (ranks : Ranked F order left) (t bi
   without-joins k c = record {
     out = rw (eq-eqb k k refl, without);
     within = servable-if F t (stateOf left) (jobAt order k) (c .served .able);
-    same = λ i l n. sym (rw (ne-eqb i k n, without))
+    same = λ i l n. sym (rw (ne-eqb i k n, without));
   }
 
   pub can-serve : 0 < bits → CanServe bits order left
@@ -97,7 +97,7 @@ module _ (F : Spans) (order left : List ℕ) (ranks : Ranked F order left) (t bi
             listed = omega (arith, c .zeros, c .below, ranks .long);
             job = omega (arith, job, ranks .known k (c .below), ranks .room);
             unit = subst (λ (x : ℕ). 0 < getD left x 0) (sym job) (c .served .able .unit);
-            set = subst (λ (x : ℕ). 2 ^ x ≤ bits) (sym (c .zeros)) (omega (arith, b, j))
+            set = subst (λ (x : ℕ). 2 ^ x ≤ bits) (sym (c .zeros)) (omega (arith, b, j));
           }
 
   pub byte-served : servedByte bits order ≡ runByte (chosen F true t (stateOf left))
@@ -135,8 +135,10 @@ module _ (F : Spans) (order left : List ℕ) (ranks : Ranked F order left) (t bi
     where
       able : Eligible F t (stateOf left) (jobAt order k)
       able = c .served .able
+
       still : Eligible F t (stateOf (lower left (jobAt order k))) (jobAt order k)
       still = record { below = able .below; released = able .released; before = able .before; unit = omega (arith, here-left k c, z) }
+
       go : (i : ℕ) → i < F .n → Dec (i ≡ k) → servesRank F order t (stateOf left) i ≡ servesRank F order t (stateOf (lower left (jobAt order k))) i
       go i l (yes e) =
           rw e (servable-if F t (stateOf left) (jobAt order k) able

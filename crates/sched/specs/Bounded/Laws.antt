@@ -107,8 +107,10 @@ least-some (suc k) t f x e = go (f t) refl e (least-some k (suc t) f x)
     go false q h ih =
         let r = ih h in
         record {
-          from = omega (arith, r .from); below = omega (arith, r .below); holds = r .holds;
-          first = λ i l m. here i l m (ℕ-discrete i t) (r .first)
+          from = omega (arith, r .from);
+          below = omega (arith, r .below);
+          holds = r .holds;
+          first = λ i l m. here i l m (ℕ-discrete i t) (r .first);
         }
       where
         here : (i : ℕ) → t ≤ i → i < x → Dec (i ≡ t) → ((j : ℕ) → suc t ≤ j → j < x → f j ≡ false) → f i ≡ false

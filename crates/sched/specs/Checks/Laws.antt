@@ -17,15 +17,15 @@ use Rattle.sched.specs.declared.Refusal.the-variants.{OutOfRange, BadJob
 use Rattle.sched.specs.declared.Checked.{Checked}
 use Rattle.sched.specs.declared.Checked.the-variants.{Passed, Refused}
 
-refused-not-passed : {A : Type 0} (r : Refusal) → _≡_ {A = Checked} (Refused r) Passed → A
+pub refused-not-passed : {A : Type 0} (r : Refusal) → _≡_ {A = Checked} (Refused r) Passed → A
 refused-not-passed r e = let z : _≡_ {A = ℕ} 0 1 = cc in absurd (omega arith)
 
 -- a check that passes has not met its fault
-unless-passed : (b : Bool) (r : Refusal) (c : Checked) → unless b r c ≡ Passed → (b ≡ false) × (c ≡ Passed)
+pub unless-passed : (b : Bool) (r : Refusal) (c : Checked) → unless b r c ≡ Passed → (b ≡ false) × (c ≡ Passed)
 unless-passed true r c e = refused-not-passed r e
 unless-passed false r c e = (refl, e)
 
-then-passed : (a c : Checked) → andThen a c ≡ Passed → (a ≡ Passed) × (c ≡ Passed)
+pub then-passed : (a c : Checked) → andThen a c ≡ Passed → (a ≡ Passed) × (c ≡ Passed)
 then-passed Passed c e = (refl, e)
 then-passed (Refused r) c e = refused-not-passed r e
 
@@ -87,7 +87,7 @@ passed-passes J e =
       same-deadlines = eqb-true (length ds) (length rs) (not-false _ (c .0));
       same-volumes = eqb-true (length ps) (length rs) (not-false _ (d .0));
       few = ltb-false 64 (length rs) (f .0);
-      good = λ j l. from-good (length rs) 0 h rs ds ps (f .1) j (omega arith) (omega arith)
+      good = λ j l. from-good (length rs) 0 h rs ds ps (f .1) j (omega arith) (omega arith);
     }
   where
     positive : (J .horizon ≡ 0 → ⊥) → 1 ≤ J .horizon
@@ -95,10 +95,13 @@ passed-passes J e =
 
 pub passes-passed : (J : Jobs) → Passes J → checkOf J ≡ Passed
 passes-passed J p =
-    simp
-    (ne-eqb (J .horizon) 0 (omega arith), le-ltb 4096 (J .horizon) (p .high),
-    eq-eqb (length (J .deadlines)) (count J) (p .same-deadlines), eq-eqb (length (J .volumes)) (count J) (p .same-volumes),
-    le-ltb 64 (count J) (p .few))
+    simp (
+      ne-eqb (J .horizon) 0 (omega arith),
+      le-ltb 4096 (J .horizon) (p .high),
+      eq-eqb (length (J .deadlines)) (count J) (p .same-deadlines),
+      eq-eqb (length (J .volumes)) (count J) (p .same-volumes),
+      le-ltb 64 (count J) (p .few),
+    )
     (from-passes (count J) 0 (J .horizon) (J .releases) (J .deadlines) (J .volumes) (λ i l m. p .good i (omega arith)))
 
 pub passes : (J : Jobs) → checkOf J ≡ Passed ↔ Passes J

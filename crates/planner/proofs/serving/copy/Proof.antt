@@ -39,9 +39,11 @@ loop-less c = search needs
 
 loop-again : tie.Need-loop-again Inv-loop μ-loop
 loop-again c =
-    let s = c .before .before .before in
-    (search needs, simp length-set (c .before .before .loop .inv .1),
-    copied-turn _ _ _ _ (c .before .loop-test .taken) (s .pre) (c .before .before .loop .inv .2))
+    let s = c .before .before .before in (
+      search needs,
+      simp length-set (c .before .before .loop .inv .1),
+      copied-turn _ _ _ _ (c .before .loop-test .taken) (s .pre) (c .before .before .loop .inv .2),
+    )
 
 same-length : tie.Need-same-length Inv-loop μ-loop
 same-length c = search needs

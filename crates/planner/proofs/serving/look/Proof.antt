@@ -87,11 +87,12 @@ loop-less c = search needs
 
 loop-again : tie.Need-loop-again Inv-loop μ-loop
 loop-again c =
-    let l = c .before .before .before .before .before .before .before .before .before in
-    (ready-next _ _ _ _ _ _ _ _ _ _ _ _ (c .before .before .before .before .before .before .before .before .loop-test .taken) (l .loop .inv .0)
-      (c .before .before .before .before .before .before .may-serve .ensures .0) (c .before .before .before .before .wide .ensures) (c .before .before .before .sooner .ensures)
-      (c .before .wide2 .ensures) (c .sooner2 .ensures),
-    omega (arith, l .loop .inv .1, c .before .before .before .sooner .ensures .most, c .sooner2 .ensures .most))
+    let l = c .before .before .before .before .before .before .before .before .before in (
+      ready-next _ _ _ _ _ _ _ _ _ _ _ _ (c .before .before .before .before .before .before .before .before .loop-test .taken) (l .loop .inv .0)
+          (c .before .before .before .before .before .before .may-serve .ensures .0) (c .before .before .before .before .wide .ensures) (c .before .before .before .sooner .ensures)
+          (c .before .wide2 .ensures) (c .sooner2 .ensures),
+      omega (arith, l .loop .inv .1, c .before .before .before .sooner .ensures .most, c .sooner2 .ensures .most),
+    )
 
 returns : tie.Need-returns Inv-loop μ-loop
 returns c = ready-end _ _ _ _ _ _ _ (c .loop-test .left) (c .before .loop .inv .0)
