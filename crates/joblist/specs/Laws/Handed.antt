@@ -67,11 +67,11 @@ module _ (bytes rs ds ps rs′ ds′ ps′ : List ℕ) (answer : ListRead) (m : 
         jobs =
             ap (λ (l : ListHeader). jobsOf (l .h) (l .q) (take (l .count) rs′) (take (l .count) ds′) (take (l .count) ps′)) same
             ∙ same-list _ (listOf bytes) refl refl (front bytes releaseOf rs rs′ r) (front bytes (deadlineOf (headerHorizon bytes)) ds ds′ d)
-              (front bytes volumeOf ps ps′ v);
+            (front bytes volumeOf ps ps′ v);
         high = rw same (g .header .high);
         releases = rw same (long bytes releaseOf rs rs′ r);
         deadlines = rw same (long bytes (deadlineOf (headerHorizon bytes)) ds ds′ d);
-        volumes = rw same (long bytes volumeOf ps ps′ v)
+        volumes = rw same (long bytes volumeOf ps ps′ v);
       }
 
   pub read-list : (header : ListHeader) → answer ≡ Read header → ReadList bytes check header rs′ ds′ ps′
