@@ -18,14 +18,14 @@ use Rattle.edf.specs.Theorems.{workable-at-most-total, some-slot-wakes}
 use Rattle.edf.specs.Chain.{Kept, endOf}
 use Rattle.edf.specs.Chain.Keeping.{runBytes, kept-start}
 use Rattle.edf.specs.Chain.Missing.{kept-set, kept-volume}
-use Rattle.skeleton.specs.Rival.{awake-of-length}
+use Rattle.sched.specs.Slots.Laws.{awake-of-length}
 use Rattle.skeleton.specs.Theorems.{least-is-skeleton, least-length}
 use Rattle.skeleton.specs.Waking.Laws.{woken-count}
-use Rattle.planner.specs.Runs.{Units, Runnable, RunDone}
-use Rattle.planner.specs.Extending.{Extendable, Beginning, EndsOf, Extending}
+use Rattle.planner.specs.Runs.{Runnable, RunDone}
+use Rattle.planner.specs.Extending.{Beginning, EndsOf, Extending}
 use Rattle.planner.proofs.Filling.{ranks-of}
 
-module _ (J : Jobs) (order lost ends table : List ℕ) (g : Beginning J order lost ends table) where
+module _ {J : Jobs} {order lost ends table : List ℕ} (g : Beginning J order lost ends table) where
   set-long : length (awakeOf table) ≡ J .horizon
   set-long = ap length (g .extendable .set-is) ∙ least-length J (g .extendable .passes)
 
@@ -39,7 +39,7 @@ module _ (J : Jobs) (order lost ends table : List ℕ) (g : Beginning J order lo
         ranks = ranks-of J order lost (g .extendable .passes .few) (omega (arith, g .extendable .passes .few, g .units .long)) (g .extendable .ranks);
       }
 
-  module _ (lost′ table′ : List ℕ) (done : RunDone (spans J) lost table lost′ table′) where
+  module _ {lost′ table′ : List ℕ} (done : RunDone (spans J) lost table lost′ table′) where
     ran : table′ ≡ runBytes J (awake (awakeOf table))
     ran =
         done .table-is
@@ -59,14 +59,15 @@ module _ (J : Jobs) (order lost ends table : List ℕ) (g : Beginning J order lo
     pub begin-room : (count J ≤ 64) × (count J ≤ length lost′)
     begin-room = (g .extendable .passes .few, omega (arith, g .extendable .passes .few, done .left-long, g .units .long))
 
-    module _ (ends′ : List ℕ) (same : length ends′ ≡ length ends) (last : EndsOf table′ ends′) (short : ℕ) (sum : short ≡ sumBelow (count J) (stateOf lost′)) where
+    module _ {ends′ : List ℕ} (same : length ends′ ≡ length ends) (last : EndsOf table′ ends′) (short : ℕ)
+        (sum : short ≡ sumBelow (count J) (stateOf lost′)) where
       kept : Kept J (awakeOf table) table′ lost′ ends′
       kept =
           rw ran
           (kept-start J (omega (arith, g .extendable .passes .few)) (awakeOf table) lost′ ends′ (begin-room .1)
-            (omega (arith, g .extendable .passes .few, same, ap length (g .blank), length-replicate {A = ℕ} 64 0))
-            (λ j l. ap (λ (L : State). L j) over)
-            (λ j l. last .each j (omega (arith, g .extendable .passes .few)) ∙ ap (endOf j) ran))
+          (omega (arith, g .extendable .passes .few, same, ap length (g .blank), length-replicate {A = ℕ} 64 0))
+          (λ j l. ap (λ (L : State). L j) over)
+          (λ j l. last .each j (omega (arith, g .extendable .passes .few)) ∙ ap (endOf j) ran))
 
       missing : workable J (awakeOf table) + short ≡ totalVolume J
       missing = rw sum (kept-volume (g .extendable .passes) set-long kept)
@@ -75,9 +76,13 @@ module _ (J : Jobs) (order lost ends table : List ℕ) (g : Beginning J order lo
       in-all =
           let p = g .extendable .passes in
           let least = ap (workable J) (g .extendable .set-is) in
-          omega (arith, missing, least,
+          omega (
+            arith,
+            missing,
+            least,
             woken-count J (λ S n k v. some-slot-wakes J S p (g .extendable .free) k n v) (leastSkeleton J) (least-length J p) (least-is-skeleton J p)
-            (workable-at-most-total J (leastSkeleton J) p (least-length J p)))
+                (workable-at-most-total J (leastSkeleton J) p (least-length J p)),
+          )
 
       begun : Extending J (awakeOf table) order lost′ ends′ table′ short 0 0
       unfolding extended woken

@@ -1,5 +1,5 @@
 -- The turns of the two loops over ranks, in the words of what they are lent.
-use Prim.Native.Nat.{ℕ, zero, suc, _+_, _-_, _≤_, _<_, max}
+use Prim.Native.Nat.{ℕ, _+_, _-_, _≤_, _<_, max}
 use mathlib.Core.Path.{_≡_, refl, ap, sym, _∙_}
 use mathlib.Core.Bool.{Bool, true, false, _&&_, _||_}
 use mathlib.Core.List.{List}
@@ -15,7 +15,7 @@ use Rattle.edf.specs.Chain.Bounds.{InTable, in-table-on}
 use Rattle.edf.specs.Chain.Turns.{test-closed, test-lost, test-on, test-end, apply-closed, apply-lost, apply-on, apply-end}
 use Rattle.planner.specs.Chains.{InLists, Readable, Wakeable, Booked}
 
-module _ (releases deadlines order lost ends : List ℕ) where
+module _ {releases deadlines order lost ends : List ℕ} where
   pub in-lists : Readable releases deadlines order lost ends → (k : ℕ) → k < length releases → InLists (jobAt order k) releases deadlines lost ends
   in-lists r k l =
       let b = r .known k l in
@@ -35,11 +35,11 @@ pub record Asked (releases deadlines order lost ends : List ℕ) (x at k : ℕ) 
   pub readable : Readable releases deadlines order lost ends
   pub rest : gains releases deadlines order lost ends (length releases) 0 x ≡ gains releases deadlines order lost ends (length releases - k) k at
 
-module _ (releases deadlines order lost ends : List ℕ) (x : ℕ) where
-  pub asked-start : Readable releases deadlines order lost ends → Asked releases deadlines order lost ends x x 0
-  asked-start r = record { readable = r; rest = rw (sub-zero (length releases)) }
+module _ {releases deadlines order lost ends : List ℕ} where
+  pub asked-start : (x : ℕ) → Readable releases deadlines order lost ends → Asked releases deadlines order lost ends x x 0
+  asked-start x r = record { readable = r; rest = rw (sub-zero (length releases)) }
 
-  module _ (at k : ℕ) (a : Asked releases deadlines order lost ends x at k) where
+  module _ {x at k : ℕ} (a : Asked releases deadlines order lost ends x at k) where
     module _ (l : k < length releases) (b : Bool) (e : b ≡ isOpen releases deadlines lost ends at (jobAt order k)) where
       pub asked-closed : b ≡ false → Asked releases deadlines order lost ends x at (k + 1)
       asked-closed o =
@@ -58,7 +58,7 @@ module _ (releases deadlines order lost ends : List ℕ) (x : ℕ) where
           record { readable = a .readable; rest = test-on releases deadlines order lost ends _ (length releases) k at _ l refl (sym e ∙ o) (omega arith) (a .rest) }
 
     pub asked-end : length releases ≤ k → false ≡ gains releases deadlines order lost ends (length releases) 0 x
-    asked-end l = sym (test-end releases deadlines order lost ends _ (length releases) k at 0 l (a .rest))
+    asked-end l = sym (test-end releases deadlines order lost ends _ (length releases) k at l (a .rest))
 
 -- the update has come to rank k and slot at
 pub record Handing (releases deadlines order lost₀ ends₀ table₀ : List ℕ) (x : ℕ) (lost ends table : List ℕ) (at k : ℕ) : Type 0 where
@@ -69,17 +69,15 @@ pub record Handing (releases deadlines order lost₀ ends₀ table₀ : List ℕ
   pub same-ends : length ends ≡ length ends₀
   pub rest : applied releases deadlines order (length releases) 0 x table₀ lost₀ ends₀ ≡ applied releases deadlines order (length releases - k) k at table lost ends
 
--- an end that a search gives
-pub end-small : (j s : ℕ) (table : List ℕ) (v : ℕ) → v ≡ endBelow j s table → v ≤ s
-end-small j s table v e = rw e (ends-below j s table .within)
-
-module _ (releases deadlines order lost₀ ends₀ table₀ : List ℕ) (x : ℕ) where
-  pub handing-start : Wakeable releases deadlines order lost₀ ends₀ table₀ x → Handing releases deadlines order lost₀ ends₀ table₀ x lost₀ ends₀ table₀ x 0
+module _ {releases deadlines order lost₀ ends₀ table₀ : List ℕ} {x : ℕ} where
+  pub handing-start : Wakeable releases deadlines order lost₀ ends₀ table₀ x →
+      Handing releases deadlines order lost₀ ends₀ table₀ x lost₀ ends₀ table₀ x 0
   handing-start w =
       record { readable = w .readable; small = w .small; inside = w .inside; same-lost = refl; same-ends = refl; rest = rw (sub-zero (length releases)) }
 
-  module _ (lost ends table : List ℕ) (at k : ℕ) (h : Handing releases deadlines order lost₀ ends₀ table₀ x lost ends table at k) where
-    booked : (table′ lost′ ends′ : List ℕ) → applied releases deadlines order (length releases) 0 x table₀ lost₀ ends₀ ≡ books table′ lost′ ends′ → Booked (applied releases deadlines order (length releases) 0 x table₀ lost₀ ends₀) table′ lost′ ends′
+  module _ {lost ends table : List ℕ} {at k : ℕ} (h : Handing releases deadlines order lost₀ ends₀ table₀ x lost ends table at k) where
+    booked : (table′ lost′ ends′ : List ℕ) → applied releases deadlines order (length releases) 0 x table₀ lost₀ ends₀ ≡ books table′ lost′ ends′ →
+        Booked (applied releases deadlines order (length releases) 0 x table₀ lost₀ ends₀) table′ lost′ ends′
     booked table′ lost′ ends′ e =
         record {
           table-is = sym (ap (λ (b : Books). b .table) e);
@@ -92,11 +90,11 @@ module _ (releases deadlines order lost₀ ends₀ table₀ : List ℕ) (x : ℕ
 
     pub handing-end : length releases ≤ k → Booked (applied releases deadlines order (length releases) 0 x table₀ lost₀ ends₀) table lost ends
     handing-end l =
-        booked table lost ends (apply-end releases deadlines order table lost ends _ (length releases) k at 0 l (h .rest))
+        booked table lost ends (apply-end releases deadlines order table lost ends _ (length releases) k at l (h .rest))
 
     module _ (l : k < length releases) where
       pub handing-in : InLists (jobAt order k) releases deadlines lost ends
-      handing-in = in-lists releases deadlines order lost ends (h .readable) k l
+      handing-in = in-lists (h .readable) k l
 
       module _ (b : Bool) (e : b ≡ isOpen releases deadlines lost ends at (jobAt order k)) where
         pub handing-closed : b ≡ false → Handing releases deadlines order lost₀ ends₀ table₀ x lost ends table at (k + 1)
@@ -125,8 +123,13 @@ module _ (releases deadlines order lost₀ ends₀ table₀ : List ℕ) (x : ℕ
           pub handing-last : 0 < getD ends (jobAt order k) 0
           handing-last = omega (arith, open-ends releases deadlines lost ends at (jobAt order k) (sym e ∙ o) none)
 
-          pub handing-inside : getD ends (jobAt order k) 0 - 1 < length table
-          handing-inside = omega (arith, next .inside, h .inside .table-long)
+          pub handing-below : getD ends (jobAt order k) 0 - 1 ≤ length (set table at (jobAt order k))
+          handing-below = omega (arith, next .inside, next .table-long)
+
+          pub handing-fits : (v : ℕ) → v ≡ endBelow (jobAt order k) (getD ends (jobAt order k) 0 - 1) (set table at (jobAt order k)) → v ≤ 4096
+          handing-fits v m =
+              rw m
+              (omega (arith, next .inside, h .small, ends-below (jobAt order k) (getD ends (jobAt order k) 0 - 1) (set table at (jobAt order k)) .within))
 
           pub handing-on : (v : ℕ) → v ≡ endBelow (jobAt order k) (getD ends (jobAt order k) 0 - 1) (set table at (jobAt order k)) →
               Handing releases deadlines order lost₀ ends₀ table₀ x lost (set ends (jobAt order k) v) (set table at (jobAt order k)) (getD ends (jobAt order k) 0 - 1) (k + 1)

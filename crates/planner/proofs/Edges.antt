@@ -1,7 +1,7 @@
 -- Reading a table's set: which slots are awake, which touch the set, where the search goes on; and sums and ends by one pass.
 use Prim.Native.Nat.{ℕ, zero, suc, _+_, _-_, _*_, _≤_, _<_}
 use mathlib.Core.Path.{_≡_, refl, ap, sym, _∙_}
-use mathlib.Core.Bool.{Bool, true, false, not, _&&_, _||_}
+use mathlib.Core.Bool.{Bool, true, false, not, _&&_}
 use mathlib.Core.List.{List}
 use mathlib.Core.Logic.{_≢_}
 use native.Mathlib.Omega.{arith}
@@ -14,7 +14,7 @@ use Rattle.sched.specs.Slots.{awake, awakeOf, touches}
 use Rattle.edf.specs.Search.{stateOf}
 use Rattle.edf.specs.Chain.{endBelow, endOf}
 use Rattle.edf.specs.Chain.Ends.{end-here, end-lower}
-use Rattle.skeleton.specs.Rival.{awake-of-length}
+use Rattle.sched.specs.Slots.Laws.{awake-of-length}
 use Rattle.skeleton.specs.Waking.Cursor.{cursorAfter}
 use Rattle.planner.specs.Extending.{EndsOf}
 

@@ -18,7 +18,7 @@ use Rattle.edf.specs.Table.{fill-is-run}
 use Rattle.edf.specs.Whole.{nothing-lost}
 use Rattle.edf.specs.Theorems.{workable-is-edf}
 use Rattle.edf.specs.Chain.{RankedJobs}
-use Rattle.skeleton.specs.Rival.{awake-of-length}
+use Rattle.sched.specs.Slots.Laws.{awake-of-length}
 use Rattle.planner.specs.Ranks.{Ranked}
 use Rattle.planner.specs.Runs.{Units, Fillable, Runnable, RunDone}
 

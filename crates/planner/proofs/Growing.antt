@@ -41,7 +41,8 @@ next-is : (J : Jobs) (S : List Bool) (x : ℕ) → x < J .horizon → NoneBefore
 unfolding nextFrom
 next-is J S x l n w = sym (next-from J S x (omega arith) n) ∙ least-here (J .horizon - x) x (wakes J S) (omega arith) w
 
-woken-next : (n : ℕ) (J : Jobs) (S : List Bool) (x : ℕ) → workable J S < totalVolume J → nextWake J S ≡ some x → wokenIn (suc n) J S ≡ x ∷ wokenIn n J (wakeSlot S x)
+woken-next : (n : ℕ) (J : Jobs) (S : List Bool) (x : ℕ) → workable J S < totalVolume J → nextWake J S ≡ some x →
+    wokenIn (suc n) J S ≡ x ∷ wokenIn n J (wakeSlot S x)
 unfolding wokenIn
 woken-next n J S x l e = rw (lt-ltb _ _ l, e, wokenIn)
 
@@ -49,8 +50,9 @@ no-turn : (S : List Bool) → wakeAll S [] ≡ S
 unfolding wakeAll
 no-turn S = refl
 
-module _ (J : Jobs) (S : List Bool) (order lost ends table : List ℕ) (short added cursor : ℕ) (e : Extending J S order lost ends table short added cursor) where
-  pub table-long : length table ≡ J .horizon
+module _ {J : Jobs} {S : List Bool} {order lost ends table : List ℕ} {short added cursor : ℕ}
+    (e : Extending J S order lost ends table short added cursor) where
+  table-long : length table ≡ J .horizon
   table-long = kept-long (e .kept)
 
   pub growing-readable : Readable (J .releases) (J .deadlines) order lost ends
@@ -73,13 +75,16 @@ module _ (J : Jobs) (S : List Bool) (order lost ends table : List ℕ) (short ad
       go x m w (yes b) = true-not-false (wakes J S x) w (e .none-before x b)
       go x m w (no b) = omega (arith, table-long)
 
+  pub growing-small : 0 < short → cursor < 4096
+  growing-small l = omega (arith, growing-inside l, table-long, e .passes .high)
+
   -- what is asked of a slot is whether step 3 may wake it
   wanted : (t : ℕ) → t < J .horizon → not (awake S t) && touches S t && gains (J .releases) (J .deadlines) order lost ends (count J) 0 t ≡ wakes J S t
   unfolding wakes chainHelps
   wanted t l =
       by-bool (awake S t) (λ a. rw a)
       (λ a. ap (λ (b : Bool). not (awake S t) && touches S t && b)
-        (sym (chain-tests (e .passes) (e .long) (e .ranks) (e .kept) l a)))
+      (sym (chain-tests (e .passes) (e .long) (e .ranks) (e .kept) l a)))
 
   pub growing-wakeable : 0 < short → Wakeable (J .releases) (J .deadlines) order lost ends table cursor
   growing-wakeable l =
@@ -89,7 +94,8 @@ module _ (J : Jobs) (S : List Bool) (order lost ends table : List ℕ) (short ad
         inside = rw table-long (in-table-start (e .kept) cursor (omega (arith, growing-inside l, table-long)));
       }
 
-  module _ (l : 0 < short) (b : Bool) (asked : b ≡ not (awake S cursor) && touches S cursor && gains (J .releases) (J .deadlines) order lost ends (count J) 0 cursor) where
+  module _ (l : 0 < short) (b : Bool)
+      (asked : b ≡ not (awake S cursor) && touches S cursor && gains (J .releases) (J .deadlines) order lost ends (count J) 0 cursor) where
     inside : cursor < J .horizon
     inside = omega (arith, growing-inside l, table-long)
 
@@ -141,7 +147,9 @@ module _ (J : Jobs) (S : List Bool) (order lost ends table : List ℕ) (short ad
       updated =
           chain-updates (e .passes) (e .long) (e .ranks) (e .kept) inside (turn .sleeps) (wakes-parts J S cursor waking .2)
 
-      module _ (table′ lost′ ends′ : List ℕ) (booked : Booked (applied (J .releases) (J .deadlines) order (count J) 0 cursor table lost ends) table′ lost′ ends′) (next : ℕ) (goes : next ≡ cursorAfter S cursor) where
+      module _ (table′ lost′ ends′ : List ℕ)
+          (booked : Booked (applied (J .releases) (J .deadlines) order (count J) 0 cursor table lost ends) table′ lost′ ends′)
+          (next : ℕ) (goes : next ≡ cursorAfter S cursor) where
         kept : Kept J (wakeSlot S cursor) table′ lost′ ends′
         kept = rw (booked .table-is, booked .lost-is, booked .ends-is) updated
 
@@ -171,8 +179,9 @@ module _ (J : Jobs) (S : List Bool) (order lost ends table : List ℕ) (short ad
             })
 
 -- no turn is left
-pub growing-end : (J : Jobs) (order lost ends table : List ℕ) (short added cursor : ℕ) → Extending J (awakeOf table) order lost ends table short added cursor → short ≤ 0 → Extended J table added
-growing-end J order lost ends table short added cursor e l =
+pub growing-end : {J : Jobs} {order lost ends table : List ℕ} {short added cursor : ℕ} →
+    Extending J (awakeOf table) order lost ends table short added cursor → short ≤ 0 → Extended J table added
+growing-end {J} {order} {lost} {ends} {table} {short} {added} {cursor} e l =
     record {
       set-is = sym (e .whole ∙ ap (wakeAll (awakeOf table)) (none-left (wokenIn (e .turns) J (awakeOf table)) (omega (arith, e .still))) ∙ all-of-none);
       added-is = omega (arith, e .in-all);

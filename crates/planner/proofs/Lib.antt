@@ -15,3 +15,4 @@ pub mod Sleeping
 pub mod Pricing
 pub mod Drawing
 pub mod Marking
+pub mod Stepping

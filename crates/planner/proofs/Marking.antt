@@ -11,7 +11,7 @@ use Rattle.sched.specs.Skeleton.{leastSkeleton}
 use Rattle.skeleton.specs.Windows.{windowEnd}
 use Rattle.skeleton.specs.Order.{Order}
 use Rattle.skeleton.specs.Theorems.{runs-are-least}
-use Rattle.planner.specs.Lists.{jobsOf}
+use Rattle.sched.specs.Jobs.{jobsOf}
 use Rattle.planner.specs.Order.{risingBy, keyOf}
 use Rattle.planner.specs.Order.Laws.{Each, each-map, each-at, rising-length, rising-below}
 use Rattle.planner.specs.Order.Keys.{same-order}

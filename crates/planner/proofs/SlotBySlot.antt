@@ -11,7 +11,7 @@ use lib.ListN.{length, getD, set, take, length-set}
 use lib.Seq.{set-getD, getD-set-other, take-suc-set, take-all, append-snoc}
 use lib.Dec.{eqb}
 use Rattle.sched.specs.Slots.{asleep, awake, awakeOf}
-use Rattle.skeleton.specs.Rival.{awake-of}
+use Rattle.sched.specs.Slots.Laws.{awake-of}
 use Rattle.edf.specs.Run.{Spans, State, chosen, after, slotByte, bytes, final}
 use Rattle.edf.specs.Search.{stateOf}
 use Rattle.planner.specs.Mask.Laws.{mask-alike}

@@ -1,5 +1,4 @@
 -- What the parts of the planner compute, where that is not a definition of `sched` itself.
-pub mod Lists
 pub mod Order
 pub mod Least
 pub mod Mask

@@ -2,9 +2,11 @@
 use Prim.Native.Nat.{ℕ, _-_, _≤_}
 use mathlib.Core.Path.{_≡_}
 use mathlib.Core.List.{List}
+use mathlib.Core.Option.{none}
 use lib.ListN.{length, take}
 use Rattle.sched.specs.Jobs.{Jobs, totalVolume}
 use Rattle.sched.specs.Checks.{Passes}
+use Rattle.sched.specs.Overload.{shownOverload}
 use Rattle.sched.specs.Skeleton.{leastSkeleton}
 use Rattle.sched.specs.Workable.{workable}
 use Rattle.sched.specs.Steps.{woken, extended, tableOf}
@@ -28,3 +30,9 @@ pub record Promise (J : Jobs) (lent : List ℕ) (answer : Outcome) (table : List
 pub record Stepped (J : Jobs) (figures : PlanFigures) (table : List ℕ) : Type 0 where
   pub bytes : table ≡ tableOf J (extended J)
   pub told : figures ≡ figuresOf J (tableOf J (extended J)) (length (woken J (leastSkeleton J)))
+
+-- steps 2 to 5 can be taken
+pub record Free (J : Jobs) (table : List ℕ) : Type 0 where
+  pub passes : Passes J
+  pub none-shown : shownOverload J ≡ none
+  pub long : length table ≡ J .horizon

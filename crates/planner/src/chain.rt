@@ -1,13 +1,20 @@
 // Whether waking a slot helps, and what it changes, without a second run: the woken slot takes the first job by rank that is open
 // there, and each job that has lost no unit hands on its last slot in turn.
 ghost use mathlib.Core.Path.{_≡_};
-ghost use Prim.Native.Nat.{ℕ, _+_, _≤_, _<_, max};
+ghost use Prim.Native.Nat.{_+_, _≤_, _<_, max};
 ghost use lib.ListN.{length};
 ghost use Rattle.edf.specs.Chain.{endBelow, isOpen, gains, applied};
 ghost use Rattle.planner.specs.Chains.{InLists, Readable, Wakeable, Booked};
 
 // The job may run in the slot, and has a unit that is lost or served later.
-fn is_open(at: usize, job: usize, releases: &[u16], deadlines: &[u16], lost: &[u16], ends: &[u16]) -> bool
+fn is_open(
+    at: usize,
+    job: usize,
+    releases: &[u16],
+    deadlines: &[u16],
+    lost: &[u16],
+    ends: &[u16],
+) -> bool
     requires { ⌜ InLists job (now releases) (now deadlines) (now lost) (now ends) ⌝ }
     ensures { λ r. ⌜ r ≡ isOpen (now (releases .entry)) (now (deadlines .entry)) (now (lost .entry)) (now (ends .entry)) at job ⌝ }
 {
@@ -23,7 +30,14 @@ fn is_open(at: usize, job: usize, releases: &[u16], deadlines: &[u16], lost: &[u
     at < ends[job] as usize
 }
 
-pub fn helps(x: usize, releases: &[u16], deadlines: &[u16], order: &[u8], lost: &[u16], ends: &[u16]) -> bool
+pub fn helps(
+    x: usize,
+    releases: &[u16],
+    deadlines: &[u16],
+    order: &[u8],
+    lost: &[u16],
+    ends: &[u16],
+) -> bool
     requires { ⌜ Readable (now releases) (now deadlines) (now order) (now lost) (now ends) ⌝ }
     ensures { λ r. ⌜ r ≡ gains (now (releases .entry)) (now (deadlines .entry)) (now (order .entry)) (now (lost .entry)) (now (ends .entry)) (length (now (releases .entry))) 0 x ⌝ }
 {
@@ -63,10 +77,22 @@ fn later(end: u16, at: usize) -> u16
     requires { ⌜ at < 65535 ⌝ }
     ensures { λ r. ⌜ r ≡ max end (at + 1) ⌝ }
 {
-    if (end as usize) < at + 1 { (at + 1) as u16 } else { end }
+    if (end as usize) < at + 1 {
+        (at + 1) as u16
+    } else {
+        end
+    }
 }
 
-pub fn wake(x: usize, releases: &[u16], deadlines: &[u16], order: &[u8], lost: &mut [u16], ends: &mut [u16], table: &mut [u8])
+pub fn wake(
+    x: usize,
+    releases: &[u16],
+    deadlines: &[u16],
+    order: &[u8],
+    lost: &mut [u16],
+    ends: &mut [u16],
+    table: &mut [u8],
+)
     requires { ⌜ Wakeable (now releases) (now deadlines) (now order) (now lost) (now ends) (now table) x ⌝ }
     ensures { λ r. ⌜ Booked (applied (now (releases .entry)) (now (deadlines .entry)) (now (order .entry)) (length (now (releases .entry))) 0 x (now (table .entry)) (now (lost .entry)) (now (ends .entry))) (now (table .exit)) (now (lost .exit)) (now (ends .exit)) ⌝ }
 {

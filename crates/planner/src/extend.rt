@@ -2,14 +2,14 @@
 // and is kept as the run of earliest deadline first over them, with the units that it loses and one more than the last slot of each job.
 ghost use mathlib.Core.Path.{_≡_};
 ghost use mathlib.Core.Bool.{not, _&&_};
-ghost use Prim.Native.Nat.{ℕ, _+_, _≤_, _<_};
+ghost use Prim.Native.Nat.{_+_, _≤_, _<_};
 ghost use lib.ListN.{length, replicate};
 ghost use Rattle.sched.specs.Bounded.{sumBelow};
 ghost use Rattle.sched.specs.Slots.{awake, awakeOf, touches};
 ghost use Rattle.edf.specs.Search.{stateOf};
 ghost use Rattle.edf.specs.Chain.{gains};
 ghost use Rattle.skeleton.specs.Waking.Cursor.{cursorAfter};
-ghost use Rattle.planner.specs.Lists.{jobsOf};
+ghost use Rattle.sched.specs.Jobs.{jobsOf};
 ghost use Rattle.planner.specs.Chains.{Readable};
 ghost use Rattle.planner.specs.Extending.{EndsOf, Extendable, Beginning, Extending, Extended};
 use super::chain;
@@ -40,7 +40,15 @@ fn is_near(table: &[u8], t: usize) -> bool
 }
 
 // Slot t sleeps, touches the set and helps.
-fn may_wake(t: usize, releases: &[u16], deadlines: &[u16], order: &[u8], lost: &[u16], ends: &[u16], table: &[u8]) -> bool
+fn may_wake(
+    t: usize,
+    releases: &[u16],
+    deadlines: &[u16],
+    order: &[u8],
+    lost: &[u16],
+    ends: &[u16],
+    table: &[u8],
+) -> bool
     requires { ⌜ Readable (now releases) (now deadlines) (now order) (now lost) (now ends) × (t < length (now table)) ⌝ }
     ensures { λ r. ⌜ r ≡ not (awake (awakeOf (now (table .entry))) t) && touches (awakeOf (now (table .entry))) t && gains (now (releases .entry)) (now (deadlines .entry)) (now (order .entry)) (now (lost .entry)) (now (ends .entry)) (length (now (releases .entry))) 0 t ⌝ }
 {
@@ -102,7 +110,17 @@ fn ends_of(table: &[u8], ends: &mut [u16])
 }
 
 // The run over the table's set, and what is kept of it.
-fn begin(h: u16, q: u16, releases: &[u16], deadlines: &[u16], volumes: &[u16], order: &[u8], lost: &mut [u16], ends: &mut [u16], table: &mut [u8]) -> u32
+fn begin(
+    h: u16,
+    q: u16,
+    releases: &[u16],
+    deadlines: &[u16],
+    volumes: &[u16],
+    order: &[u8],
+    lost: &mut [u16],
+    ends: &mut [u16],
+    table: &mut [u8],
+) -> u32
     requires { ⌜ Beginning (jobsOf h q (now releases) (now deadlines) (now volumes)) (now order) (now lost) (now ends) (now table) ⌝ }
     ensures { λ r. ⌜ Extending (jobsOf h q (now (releases .entry)) (now (deadlines .entry)) (now (volumes .entry))) (awakeOf (now (table .exit))) (now (order .entry)) (now (lost .exit)) (now (ends .exit)) (now (table .exit)) r 0 0 ⌝ }
 {
@@ -112,7 +130,18 @@ fn begin(h: u16, q: u16, releases: &[u16], deadlines: &[u16], volumes: &[u16], o
 }
 
 // Wakes a slot a turn, `shortfall` slots in all, and counts them.
-fn grow(h: u16, q: u16, releases: &[u16], deadlines: &[u16], volumes: &[u16], order: &[u8], lost: &mut [u16], ends: &mut [u16], table: &mut [u8], shortfall: u32) -> u32
+fn grow(
+    h: u16,
+    q: u16,
+    releases: &[u16],
+    deadlines: &[u16],
+    volumes: &[u16],
+    order: &[u8],
+    lost: &mut [u16],
+    ends: &mut [u16],
+    table: &mut [u8],
+    shortfall: u32,
+) -> u32
     requires { ⌜ Extending (jobsOf h q (now releases) (now deadlines) (now volumes)) (awakeOf (now table)) (now order) (now lost) (now ends) (now table) shortfall 0 0 ⌝ }
     ensures { λ r. ⌜ Extended (jobsOf h q (now (releases .entry)) (now (deadlines .entry)) (now (volumes .entry))) (now (table .exit)) r ⌝ }
 {
@@ -134,12 +163,41 @@ fn grow(h: u16, q: u16, releases: &[u16], deadlines: &[u16], volumes: &[u16], or
     added
 }
 
-pub fn extend(h: u16, q: u16, releases: &[u16], deadlines: &[u16], volumes: &[u16], order: &[u8], table: &mut [u8]) -> u32
+pub fn extend(
+    h: u16,
+    q: u16,
+    releases: &[u16],
+    deadlines: &[u16],
+    volumes: &[u16],
+    order: &[u8],
+    table: &mut [u8],
+) -> u32
     requires { ⌜ Extendable (jobsOf h q (now releases) (now deadlines) (now volumes)) (now order) (now table) ⌝ }
     ensures { λ r. ⌜ Extended (jobsOf h q (now (releases .entry)) (now (deadlines .entry)) (now (volumes .entry))) (now (table .exit)) r ⌝ }
 {
     let mut lost = serving::units(volumes);
     let mut ends = [0u16; 64];
-    let short = begin(h, q, releases, deadlines, volumes, order, &mut lost, &mut ends, table);
-    grow(h, q, releases, deadlines, volumes, order, &mut lost, &mut ends, table, short)
+    let short = begin(
+        h,
+        q,
+        releases,
+        deadlines,
+        volumes,
+        order,
+        &mut lost,
+        &mut ends,
+        table,
+    );
+    grow(
+        h,
+        q,
+        releases,
+        deadlines,
+        volumes,
+        order,
+        &mut lost,
+        &mut ends,
+        table,
+        short,
+    )
 }

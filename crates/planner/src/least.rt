@@ -10,7 +10,7 @@ ghost use Rattle.sched.specs.Jobs.{Jobs};
 ghost use Rattle.sched.specs.Checks.{Passes};
 ghost use Rattle.sched.specs.Slots.{awakeOf};
 ghost use Rattle.sched.specs.Skeleton.{leastSkeleton};
-ghost use Rattle.planner.specs.Lists.{jobsOf};
+ghost use Rattle.sched.specs.Jobs.{jobsOf};
 ghost use Rattle.planner.specs.Least.{chosen, wins, largest, Small, Placeable, SleepFrom, EndFrom, Windows, Priceable, Step, Fresh, Untils, Drawable, Drawn, Markable, Marked};
 
 const AWAKE: u8 = 254;

@@ -1,7 +1,106 @@
 // From a list to a table: document 01's steps on lent lists, a module a step.
+ghost use Rattle.sched.specs.Checks.{Passes};
+ghost use Rattle.sched.specs.Jobs.{jobsOf};
+ghost use Rattle.planner.specs.Extending.{Extendable};
+ghost use Rattle.planner.specs.Promises.{Promise, Free, Stepped};
+use overload::Shown;
+use sched::Checked;
+use sched::Outcome;
+use sched::PlanFigures;
+use sched::Refusal;
+
 mod order; // order.rt: the jobs by a key
-mod serving; // serving.rt: runs of earliest deadline first, step 4 among them
-mod chain; // chain.rt: what waking a slot changes
-mod extend; // extend.rt: step 3
 mod overload; // overload.rt: step 1
 mod least; // least.rt: step 2, the least skeleton
+mod chain; // chain.rt: whether waking a slot helps, and what it changes
+mod extend; // extend.rt: step 3
+mod serving; // serving.rt: runs of earliest deadline first, step 4 among them
+
+// Steps 3 to 5, with the jobs by rank.
+fn work(
+    h: u16,
+    q: u16,
+    releases: &[u16],
+    deadlines: &[u16],
+    volumes: &[u16],
+    order: &[u8],
+    table: &mut [u8],
+) -> PlanFigures
+    requires { ⌜ Extendable (jobsOf h q (now releases) (now deadlines) (now volumes)) (now order) (now table) ⌝ }
+    ensures { λ r. ⌜ Stepped (jobsOf h q (now (releases .entry)) (now (deadlines .entry)) (now (volumes .entry))) r (now (table .exit)) ⌝ }
+{
+    let added = extend::extend(h, q, releases, deadlines, volumes, order, table);
+    serving::fill(h, q, releases, deadlines, volumes, order, table);
+    let cost = sched::cost_of(q, table);
+    PlanFigures {
+        energy: cost.energy,
+        awake: cost.awake,
+        runs: cost.runs,
+        added,
+    }
+}
+
+// Steps 2 to 5 on a table of just H bytes, for a list that passes the checks and has no overloaded interval.
+fn steps(
+    h: u16,
+    q: u16,
+    releases: &[u16],
+    deadlines: &[u16],
+    volumes: &[u16],
+    table: &mut [u8],
+) -> PlanFigures
+    requires { ⌜ Free (jobsOf h q (now releases) (now deadlines) (now volumes)) (now table) ⌝ }
+    ensures { λ r. ⌜ Stepped (jobsOf h q (now (releases .entry)) (now (deadlines .entry)) (now (volumes .entry))) r (now (table .exit)) ⌝ }
+{
+    least::mark(h, q, releases, deadlines, volumes, table);
+    let n = deadlines.len();
+    let mut order = [0u8; 64];
+    order::sort(deadlines, &mut order[..n]);
+    work(h, q, releases, deadlines, volumes, &order[..n], table)
+}
+
+// What is left to do for a list that has passed its checks.
+fn plan_passed(
+    h: u16,
+    q: u16,
+    releases: &[u16],
+    deadlines: &[u16],
+    volumes: &[u16],
+    table: &mut [u8],
+) -> Outcome
+    requires { ⌜ Passes (jobsOf h q (now releases) (now deadlines) (now volumes)) ⌝ }
+    ensures { λ r. ⌜ Promise (jobsOf h q (now (releases .entry)) (now (deadlines .entry)) (now (volumes .entry))) (now (table .entry)) r (now (table .exit)) ⌝ }
+{
+    let end = h as usize;
+    if table.len() < end {
+        return Outcome::Refused(Refusal::TooShort(end));
+    }
+    match overload::find(h, q, releases, deadlines, volumes) {
+        Shown::At(i) => Outcome::Overloaded(i),
+        Shown::Nothing => Outcome::Planned(steps(
+            h,
+            q,
+            releases,
+            deadlines,
+            volumes,
+            &mut table[..end],
+        )),
+    }
+}
+
+// The plan of a list, to the first h bytes of the table; a refusal or an overload leaves the table as it is.
+pub fn plan(
+    h: u16,
+    q: u16,
+    releases: &[u16],
+    deadlines: &[u16],
+    volumes: &[u16],
+    table: &mut [u8],
+) -> Outcome
+    ensures { λ r. ⌜ Promise (jobsOf h q (now (releases .entry)) (now (deadlines .entry)) (now (volumes .entry))) (now (table .entry)) r (now (table .exit)) ⌝ }
+{
+    match sched::check_list(h, releases, deadlines, volumes) {
+        Checked::Passed => plan_passed(h, q, releases, deadlines, volumes, table),
+        Checked::Refused(r) => Outcome::Refused(r),
+    }
+}

@@ -6,7 +6,7 @@ ghost use mathlib.Core.List.{reverse};
 ghost use Rattle.sched.specs.Checks.{Passes};
 ghost use Rattle.sched.specs.Overload.{shownOverload};
 ghost use Rattle.edf.specs.Overload.Search.{startFor, sooner, tryEnd};
-ghost use Rattle.planner.specs.Lists.{jobsOf};
+ghost use Rattle.sched.specs.Jobs.{jobsOf};
 ghost use Rattle.planner.specs.Overload.{ByRelease, startOf, shownOf};
 
 pub enum Shown {

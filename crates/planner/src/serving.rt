@@ -7,7 +7,7 @@ ghost use Rattle.sched.specs.Slots.{awakeOf};
 ghost use Rattle.sched.specs.Steps.{tableOf};
 ghost use Rattle.edf.specs.Run.{servable};
 ghost use Rattle.edf.specs.Search.{stateOf};
-ghost use Rattle.planner.specs.Lists.{jobsOf};
+ghost use Rattle.sched.specs.Jobs.{jobsOf};
 ghost use Rattle.planner.specs.Mask.{bit};
 ghost use Rattle.planner.specs.Ranks.{spansOf, Outside, ReadyAt, Ranked, CanServe, servedByte, servedLeft, servedBits};
 ghost use Rattle.planner.specs.Runs.{Sooner, Serves, Current, SlotReady, SlotDone, Runnable, RunDone, Units, Fillable};

@@ -4,6 +4,7 @@ use mathlib.Core.Bool.{Bool, true, false, not, _||_}
 use mathlib.Core.List.{List, [], _∷_, map, _++_}
 use lib.ListN.{getD, set}
 use lib.Dec.{eqb}
+pub mod Laws
 
 -- slot t is awake; slots outside the set's list sleep
 abbrev pub awake : List Bool → ℕ → Bool

@@ -12,18 +12,9 @@ use Rattle.sched.specs.Bounded.Laws.{all-intro, any-intro}
 use Rattle.sched.specs.Jobs.{Jobs, count, release, deadline}
 use Rattle.sched.specs.Checks.{Passes}
 use Rattle.sched.specs.Slots.{awake, awakeOf, times, asleep}
+use Rattle.sched.specs.Slots.Laws.{awake-of-length, awake-of}
 use Rattle.sched.specs.Feasible.{OwnSlot, Feasible}
 use Rattle.sched.specs.Skeleton.{isSkeleton, inWindow}
-
-pub awake-of-length : (table : List ℕ) → length (awakeOf table) ≡ length table
-awake-of-length [] = refl
-awake-of-length (x ∷ table) = ap suc (awake-of-length table)
-
--- a slot of a table is awake unless its byte says asleep
-pub awake-of : (table : List ℕ) (t : ℕ) → t < length table → awake (awakeOf table) t ≡ not (eqb (getD table t 0) asleep)
-awake-of [] t l = absurd (omega arith)
-awake-of (x ∷ table) zero l = refl
-awake-of (x ∷ table) (suc t) l = awake-of table t (omega arith)
 
 -- a byte that stands in a table stands in some slot of it
 pub slot-of : (j : ℕ) (table : List ℕ) → 1 ≤ times j table → (t : ℕ) × (t < length table) × (getD table t 0 ≡ j)

@@ -1,23 +1,25 @@
--- Lengths stay, slots of the chain rise, jobs and bytes are small.
+-- What a loop over the chain needs besides: lengths stay, slots lie in the table, jobs and bytes are small.
 use Prim.Native.Nat.{ℕ, zero, suc, _-_, _≤_, _<_}
 use mathlib.Core.Path.{_≡_, refl, _∙_}
 use mathlib.Core.Bool.{Bool, true, false}
 use mathlib.Core.List.{List}
 use mathlib.Core.Option.{Option, none, some}
 use native.Mathlib.Omega.{arith}
-use native.Mathlib.Decide.{decLt}
+use native.Mathlib.Decide.{ℕ-discrete, decLt}
 use lib.ListN.{length, getD, set, length-set}
+use lib.Seq.{getD-set-same, getD-set-other}
 use Rattle.sched.specs.Bounded.Laws.{by-bool}
 use Rattle.sched.specs.Jobs.{Jobs, count, volume}
 use Rattle.sched.specs.Checks.{Passes}
 use Rattle.sched.specs.Slots.{awake}
 use Rattle.edf.specs.Run.{Spans, State, spans, chosen, slotByte, left}
 use Rattle.edf.specs.Pick.{View, view}
-use Rattle.edf.specs.Chain.{jobAt, RankedJobs, Kept, isOpen, Books, books, givenUp, applied, chainApply}
+use Rattle.edf.specs.Chain.{jobAt, RankedJobs, Kept, isOpen, endBelow, Books, books, givenUp, applied, chainApply}
+use Rattle.edf.specs.Chain.Ends.{ends-below}
 use Rattle.edf.specs.Chain.Turns.{applied-closed, applied-lost, applied-on}
 use Rattle.edf.specs.Chain.Open.{openIn, open-ends}
 use Rattle.edf.specs.Chain.Ahead.{Waking, Ahead, given-later}
-use Rattle.edf.specs.Chain.Keeping.{kept-byte}
+use Rattle.edf.specs.Chain.Keeping.{kept-long, kept-byte, kept-ends}
 
 -- Lengths
 
@@ -50,7 +52,35 @@ pub chain-lengths : (J : Jobs) (order table lost ends : List ℕ) (x : ℕ) → 
 unfolding chainApply
 chain-lengths J order table lost ends x = applied-lengths (J .releases) (J .deadlines) order (count J) 0 x table lost ends
 
--- Slots
+-- Slots of the chain lie in the table
+
+-- slot t is one of h, and so is the last of each of n jobs
+pub record InTable (h n t : ℕ) (table ends : List ℕ) : Type 0 where
+  pub inside : t < h
+  pub table-long : length table ≡ h
+  pub ends-long : n ≤ length ends
+  pub ends-within : (j : ℕ) → j < n → getD ends j 0 ≤ h
+
+pub in-table-start : {J : Jobs} {S : List Bool} {table lost ends : List ℕ} → Kept J S table lost ends → (x : ℕ) → x < J .horizon → InTable (J .horizon) (count J) x table ends
+in-table-start kept x l =
+    record { inside = l; table-long = kept-long kept; ends-long = kept .ends-long; ends-within = λ j b. kept-ends kept j b .within }
+
+pub in-table-on : (releases deadlines lost : List ℕ) {h n t j : ℕ} {table ends : List ℕ} → InTable h n t table ends → j < n →
+    isOpen releases deadlines lost ends t j ≡ true → getD lost j 0 ≡ 0 →
+    InTable h n (getD ends j 0 - 1) (set table t j) (givenUp j (set table t j) ends)
+in-table-on releases deadlines lost {h} {n} {t} {j} {table} {ends} f b o z =
+    record {
+      inside = omega (arith, f .ends-within j b, open-ends releases deadlines lost ends t j o z);
+      table-long = length-set table t j ∙ f .table-long;
+      ends-long = rw length-set (f .ends-long);
+      ends-within = λ i l. go i l (ℕ-discrete i j);
+    }
+  where
+    go : (i : ℕ) → i < n → Dec (i ≡ j) → getD (givenUp j (set table t j) ends) i 0 ≤ h
+    go i l (yes e) =
+        rw (e, getD-set-same ends j (endBelow j (getD ends j 0 - 1) (set table t j)) 0 (omega (arith, f .ends-long)))
+        (omega (arith, ends-below j (getD ends j 0 - 1) (set table t j) .within, f .ends-within j b))
+    go i l (no g) = rw (getD-set-other ends j i (endBelow j (getD ends j 0 - 1) (set table t j)) 0 g) (f .ends-within i l)
 
 -- a job that gives up its last slot has another below it: the one just stored
 pub given-above : {J : Jobs} {order lost ends : List ℕ} {S S′ : ℕ → Bool} {x k t : ℕ} → Waking J order lost S S′ x → Ahead J order ends S S′ x k t → k < count J →

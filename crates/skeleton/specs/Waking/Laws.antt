@@ -15,6 +15,7 @@ use Rattle.sched.specs.Bounded.{anyBelow}
 use Rattle.sched.specs.Bounded.Laws.{and-true, true-not-false, all-intro, all-elim, any-intro, any-elim, least-some, least-none}
 use Rattle.sched.specs.Jobs.{Jobs, count, totalVolume}
 use Rattle.sched.specs.Slots.{awake, touches, wakeSlot}
+use Rattle.sched.specs.Energy.Laws.{awake-at-most}
 use Rattle.sched.specs.Energy.{awakeSlots, runsFrom, energy}
 use Rattle.sched.specs.Skeleton.{isSkeleton, inWindow}
 use Rattle.sched.specs.Workable.{workable}
@@ -29,12 +30,6 @@ wake-awake (false ∷ S) zero l a = refl
 wake-awake (true ∷ S) zero l a = absurd (true≢false a)
 wake-awake (false ∷ S) (suc x) l a = wake-awake S x (omega arith) a
 wake-awake (true ∷ S) (suc x) l a = ap suc (wake-awake S x (omega arith) a)
-
-pub awake-most : (S : List Bool) → awakeSlots S ≤ length S
-unfolding awakeSlots
-awake-most [] = le-refl _
-awake-most (true ∷ S) = omega (arith, awake-most S)
-awake-most (false ∷ S) = omega (arith, awake-most S)
 
 -- an awake slot before can only save a run
 runs-awake-before : (S : List Bool) → runsFrom true S ≤ runsFrom false S
@@ -180,7 +175,7 @@ module _ (J : Jobs) where
 sleeper : (S : List Bool) (x : ℕ) → x < length S → awake S x ≡ false → awakeSlots S < length S
 sleeper S x l a =
     let m = wake-awake S x l a in
-    let n = awake-most (wakeSlot S x) in
+    let n = awake-at-most (wakeSlot S x) in
     let e = length-set S x true in
     omega arith
 

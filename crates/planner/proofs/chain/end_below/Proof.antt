@@ -1,3 +1,4 @@
+-- `planner::chain::end_below` meets its contract: it scans downwards as `endBelow` does.
 use Rattle.edf.specs.Chain.Ends.{scan-turn, scan-found, scan-end}
 use Rattle.edf.specs.Chain.{endBelow}
 use lib.ListN.{length}
@@ -7,8 +8,6 @@ use mathlib.Core.Path.{_≡_, refl, sym}
 use borrow.Author.Needs.{needs}
 use Rattle.planner.proofs.chain.end_below.Statement.{statement}
 use Rattle.planner.proofs.chain.end_below.Tie as tie
-use Rattle.planner.proofs.chain.end_below.Reads as reads
-use Rattle.planner.proofs.chain.end_below.Lts as lts
 
 abbrev Inv-loop : tie.InvT-loop
 Inv-loop table byte below s₀ s = (s ≤ length table) × (endBelow byte below table ≡ endBelow byte s table)
@@ -16,35 +15,28 @@ Inv-loop table byte below s₀ s = (s ≤ length table) × (endBelow byte below 
 abbrev μ-loop : tie.MeasureT-loop
 μ-loop table byte below s₀ s = s
 
--- src/chain.rt:53:5
 loop-holds : tie.Need-loop-holds Inv-loop μ-loop
 loop-holds c = (c .pre, refl)
 
--- src/chain.rt:54:18
 sub-if1 : tie.Need-sub-if1 Inv-loop μ-loop
 sub-if1 c = search needs
 
--- src/chain.rt:54:12
 shared-slice-read-if1 : tie.Need-shared-slice-read-if1 Inv-loop μ-loop
 shared-slice-read-if1 c = search needs
 
--- src/chain.rt:55:13
 returns : tie.Need-returns Inv-loop μ-loop
 returns c = sym (scan-found _ _ _ _ (c .before .before .loop-test .taken) (c .if1 .taken) (c .before .before .before .loop .inv .1))
 
--- src/chain.rt:57:9
 sub-s : tie.Need-sub-s Inv-loop μ-loop
 sub-s c = search needs
 
--- src/chain.rt:53:5
 loop-less : tie.Need-loop-less Inv-loop μ-loop
 loop-less c = search needs
 
--- src/chain.rt:53:5
 loop-again : tie.Need-loop-again Inv-loop μ-loop
-loop-again c = (omega arith, scan-turn _ _ _ _ (c .before .before .loop-test .taken) (c .if1 .left) (c .before .before .before .loop .inv .1))
+loop-again c =
+    (omega arith, scan-turn _ _ _ _ (c .before .before .loop-test .taken) (c .if1 .left) (c .before .before .before .loop .inv .1))
 
--- src/chain.rt:48:1
 returns-2 : tie.Need-returns-2 Inv-loop μ-loop
 returns-2 c = sym (scan-end _ _ _ _ (omega arith) (c .before .loop .inv .1))
 

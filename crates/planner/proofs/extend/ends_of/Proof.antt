@@ -1,12 +1,11 @@
+-- `planner::extend::ends_of` meets its contract: a later slot of a job overwrites an earlier one.
 use Rattle.planner.proofs.Edges.{EndsTo, ends-start, ends-turn, ends-pass, ends-done}
 use lib.ListN.{length}
-use Prim.Native.Nat.{_-_, _<_}
+use Prim.Native.Nat.{_-_}
 use native.Mathlib.Omega.{arith}
 use borrow.Author.Needs.{needs}
 use Rattle.planner.proofs.extend.ends_of.Statement.{statement}
 use Rattle.planner.proofs.extend.ends_of.Tie as tie
-use Rattle.planner.proofs.extend.ends_of.Reads as reads
-use Rattle.planner.proofs.extend.ends_of.Lts as lts
 
 abbrev Inv-loop : tie.InvT-loop
 Inv-loop table ends₀ t₀ ends t = EndsTo table ends₀ ends t
@@ -14,63 +13,48 @@ Inv-loop table ends₀ t₀ ends t = EndsTo table ends₀ ends t
 abbrev μ-loop : tie.MeasureT-loop
 μ-loop table ends₀ t₀ ends t = length table - t
 
--- src/extend.rt:91:5
 loop-holds : tie.Need-loop-holds Inv-loop μ-loop
 loop-holds c = ends-start _ _ (c .pre .0) (c .pre .1)
 
--- src/extend.rt:92:20
 shared-slice-read-byte : tie.Need-shared-slice-read-byte Inv-loop μ-loop
 shared-slice-read-byte c = search needs
 
--- src/extend.rt:94:36
 add-ends : tie.Need-add-ends Inv-loop μ-loop
 add-ends c = search needs
 
--- src/extend.rt:94:35
 cast-ends : tie.Need-cast-ends Inv-loop μ-loop
 cast-ends c = omega (arith, c .before .before .before .loop .inv .small)
 
--- src/extend.rt:94:18
 cast-ends-2 : tie.Need-cast-ends-2 Inv-loop μ-loop
 cast-ends-2 c = omega (arith, c .before .shared-slice-known .given (c .before .before .before .loop .t))
 
--- src/extend.rt:94:13
 mul-ends : tie.Need-mul-ends Inv-loop μ-loop
 mul-ends c = search needs
 
--- src/extend.rt:94:13
 slice-write-ends : tie.Need-slice-write-ends Inv-loop μ-loop
 slice-write-ends c = omega (arith, c .before .before .before .loop .inv .long, c .if1 .taken)
 
--- src/extend.rt:95:13
 add-t : tie.Need-add-t Inv-loop μ-loop
 add-t c = search needs
 
--- src/extend.rt:91:5
 loop-less : tie.Need-loop-less Inv-loop μ-loop
 loop-less c = search needs
 
--- src/extend.rt:91:5
 loop-again : tie.Need-loop-again Inv-loop μ-loop
 loop-again c = ends-turn _ _ _ _ (c .before .before .before .loop .inv) (c .before .before .loop-test .taken) (c .if1 .taken)
 
--- src/extend.rt:97:13
 add-t-2 : tie.Need-add-t-2 Inv-loop μ-loop
 add-t-2 c = search needs
 
--- src/extend.rt:91:5
 loop-less-2 : tie.Need-loop-less-2 Inv-loop μ-loop
 loop-less-2 c = search needs
 
--- src/extend.rt:91:5
 loop-again-2 : tie.Need-loop-again-2 Inv-loop μ-loop
 loop-again-2 c = ends-pass _ _ _ _ (c .before .before .before .loop .inv) (c .before .before .loop-test .taken) (c .if1 .left)
 
--- src/extend.rt:86:1
 same-length : tie.Need-same-length Inv-loop μ-loop
 same-length c = c .before .loop .inv .same
 
--- src/extend.rt:86:1
 returns : tie.Need-returns Inv-loop μ-loop
 returns c = ends-done _ _ _ _ (c .before .loop .inv) (c .loop-test .left)
 

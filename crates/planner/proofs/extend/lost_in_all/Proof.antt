@@ -1,3 +1,4 @@
+-- `planner::extend::lost_in_all` meets its contract: 64 numbers of 16 bits add up to fewer than 32.
 use Rattle.planner.proofs.Edges.{Summed, sum-start, sum-turn, sum-end}
 use lib.ListN.{length}
 use Prim.Native.Nat.{_-_, _<_}
@@ -5,8 +6,6 @@ use native.Mathlib.Omega.{arith}
 use borrow.Author.Needs.{needs}
 use Rattle.planner.proofs.extend.lost_in_all.Statement.{statement}
 use Rattle.planner.proofs.extend.lost_in_all.Tie as tie
-use Rattle.planner.proofs.extend.lost_in_all.Reads as reads
-use Rattle.planner.proofs.extend.lost_in_all.Lts as lts
 
 abbrev Inv-loop : tie.InvT-loop
 Inv-loop lost n sum₀ j₀ sum j = Summed lost n sum j
@@ -14,39 +13,36 @@ Inv-loop lost n sum₀ j₀ sum j = Summed lost n sum j
 abbrev μ-loop : tie.MeasureT-loop
 μ-loop lost n sum₀ j₀ sum j = n - j
 
--- src/extend.rt:78:5
 loop-holds : tie.Need-loop-holds Inv-loop μ-loop
 loop-holds c = sum-start _ _ (c .pre .0) (c .pre .1)
 
--- src/extend.rt:79:16
 mul-sum : tie.Need-mul-sum Inv-loop μ-loop
-mul-sum c = let l : c .before .loop .j < length (c .before .before .args .lost .now) = omega (arith, c .before .loop .inv .long, c .loop-test .taken) in search needs
+mul-sum c =
+    let l : c .before .loop .j < length (c .before .before .args .lost .now) = omega
+    (arith, c .before .loop .inv .long, c .loop-test .taken) in search needs
 
--- src/extend.rt:79:16
 shared-slice-read-sum : tie.Need-shared-slice-read-sum Inv-loop μ-loop
 shared-slice-read-sum c = omega (arith, c .before .before .loop .inv .long)
 
--- src/extend.rt:79:16
 cast-sum : tie.Need-cast-sum Inv-loop μ-loop
 cast-sum c = omega (arith, c .shared-slice-known .given (c .before .before .loop .j))
 
--- src/extend.rt:79:9
 add-sum : tie.Need-add-sum Inv-loop μ-loop
-add-sum c = omega (arith, c .before .before .loop .inv .small, c .before .before .loop .inv .few, c .shared-slice-known .given (c .before .before .loop .j))
+add-sum c =
+    omega
+    (arith, c .before .before .loop .inv .small, c .before .before .loop .inv .few, c .shared-slice-known .given (c .before .before .loop .j))
 
--- src/extend.rt:80:9
 add-j : tie.Need-add-j Inv-loop μ-loop
 add-j c = search needs
 
--- src/extend.rt:78:5
 loop-less : tie.Need-loop-less Inv-loop μ-loop
 loop-less c = search needs
 
--- src/extend.rt:78:5
 loop-again : tie.Need-loop-again Inv-loop μ-loop
-loop-again c = sum-turn _ _ _ _ (omega (arith, c .shared-slice-known .given (c .before .before .loop .j))) (c .before .loop-test .taken) (c .before .before .loop .inv)
+loop-again c =
+    sum-turn _ _ _ _ (omega (arith, c .shared-slice-known .given (c .before .before .loop .j))) (c .before .loop-test .taken)
+    (c .before .before .loop .inv)
 
--- src/extend.rt:72:1
 returns : tie.Need-returns Inv-loop μ-loop
 returns c = sum-end _ _ _ _ (c .loop-test .left) (c .before .loop .inv)
 

@@ -2,7 +2,7 @@
 use Prim.Native.Nat.{_-_}
 use borrow.Author.Needs.{needs}
 use lib.ListN.{length}
-use Rattle.planner.specs.Lists.{jobsOf}
+use Rattle.sched.specs.Jobs.{jobsOf}
 use Rattle.planner.specs.Overload.{shownOf}
 use Rattle.planner.proofs.Searching.{Looking, look-start, look-next, look-end}
 use Rattle.planner.proofs.overload.search.Statement.{statement}

@@ -3,7 +3,7 @@ use Prim.Native.Nat.{_-_}
 use native.Mathlib.Omega.{arith}
 use borrow.Author.Needs.{needs}
 use lib.ListN.{getD}
-use Rattle.planner.specs.Lists.{jobsOf}
+use Rattle.sched.specs.Jobs.{jobsOf}
 use Rattle.planner.proofs.Searching.{Visiting, visit-start, visit-sum, visit-end, visit-known, visit-deadline, visit-volume, visit-span, visit-late, visit-next, visit-found}
 use Rattle.planner.proofs.overload.start_for.Statement.{statement}
 use Rattle.planner.proofs.overload.start_for.Tie as tie

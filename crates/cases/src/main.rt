@@ -1,0 +1,14 @@
+// The worked cases of document 01 that are not proved, every refusal of the planner, and a comparison
+// of the planner with the exhaustive search over a fixed set of small lists.
+mod kept; // kept.rt: bytes that must stay
+mod refusals; // refusals.rt: single lists, printed
+mod lists; // lists.rt: the lists of the comparison
+mod compare; // compare.rt: planner and search on one list
+mod sweep; // sweep.rt: the comparison over all lists
+
+fn main() {
+    refusals::worked();
+    refusals::refused();
+    refusals::ordered();
+    sweep::all();
+}

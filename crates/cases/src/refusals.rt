@@ -1,0 +1,203 @@
+// Single lists, each printed with the number and values of its outcome, and with whether every byte
+// that must stay has stayed.
+ghost use mathlib.Core.Path.{_≡_};
+ghost use lib.ListN.{length};
+use crate::kept::MARK;
+use crate::kept::kept;
+use sched::Outcome;
+use sched::PlanFigures;
+
+// Lists of these lengths, and a table of `room` bytes. Every job is (0, h, 1), but jobs `one` and
+// `other` are (r, d, p). The wake cost is 1.
+struct Trial {
+    h: u16,
+    releases: usize,
+    deadlines: usize,
+    volumes: usize,
+    one: usize,
+    other: usize,
+    r: u16,
+    d: u16,
+    p: u16,
+    room: usize,
+}
+
+// n jobs (0, h, 1) and a table that is long enough.
+fn plain(h: u16, n: usize) -> Trial {
+    Trial {
+        h,
+        releases: n,
+        deadlines: n,
+        volumes: n,
+        one: 0,
+        other: 0,
+        r: 0,
+        d: h,
+        p: 1,
+        room: 4100,
+    }
+}
+
+// The same with (r, d, p) for the jobs `one` and `other`.
+fn with_odd(t: Trial, one: usize, other: usize, r: u16, d: u16, p: u16) -> Trial {
+    let mut next = t;
+    next.one = one;
+    next.other = other;
+    next.r = r;
+    next.d = d;
+    next.p = p;
+    next
+}
+
+// One job (r, d, p) and eight slots.
+fn single(r: u16, d: u16, p: u16) -> Trial {
+    with_odd(plain(8, 1), 0, 0, r, d, p)
+}
+
+fn with_room(t: Trial, room: usize) -> Trial {
+    let mut next = t;
+    next.room = room;
+    next
+}
+
+fn with_lengths(t: Trial, releases: usize, deadlines: usize, volumes: usize) -> Trial {
+    let mut next = t;
+    next.releases = releases;
+    next.deadlines = deadlines;
+    next.volumes = volumes;
+    next
+}
+
+fn number(x: u64) {
+    io::write_all(1, b" ");
+    io::print_decimal(1, x);
+}
+
+fn show_figures(f: PlanFigures) {
+    number(0);
+    number(f.energy as u64);
+    number(f.awake as u64);
+    number(f.runs as u64);
+    number(f.added as u64);
+}
+
+// Prints the outcome, and answers the first byte that must stay.
+fn show(h: u16, outcome: Outcome) -> usize {
+    match outcome {
+        Outcome::Planned(f) => {
+            show_figures(f);
+            h as usize
+        }
+        Outcome::Overloaded(i) => {
+            number(18);
+            number(i.a as u64);
+            number(i.b as u64);
+            0
+        }
+        Outcome::Refused(r) => {
+            number(r.number() as u64);
+            number(r.place() as u64);
+            0
+        }
+    }
+}
+
+// An entry for each of 66 jobs.
+fn entries(common: u16, one: usize, other: usize, odd: u16) -> [u16; 66]
+    ensures { λ r. ⌜ 66 ≡ length r ⌝ }
+{
+    let mut list = [common; 66];
+    list[one % 66] = odd;
+    list[other % 66] = odd;
+    list
+}
+
+fn planned(t: Trial, table: &mut [u8]) -> Outcome {
+    let releases = entries(0, t.one, t.other, t.r);
+    let deadlines = entries(t.h, t.one, t.other, t.d);
+    let volumes = entries(1, t.one, t.other, t.p);
+    let nr = t.releases % 67;
+    let nd = t.deadlines % 67;
+    let np = t.volumes % 67;
+    planner::plan(
+        t.h,
+        1,
+        &releases[..nr],
+        &deadlines[..nd],
+        &volumes[..np],
+        table,
+    )
+}
+
+fn marked() -> [u8; 4100]
+    ensures { λ r. ⌜ 4100 ≡ length r ⌝ }
+{
+    [MARK; 4100]
+}
+
+fn tried(name: &[u8], t: Trial) {
+    io::write_all(1, name);
+    let mut table = marked();
+    let room = t.room % 4101;
+    let outcome = planned(t, &mut table[..room]);
+    let from = show(t.h, outcome);
+    if kept(&table, from) {
+        io::write_all(1, b" kept\n");
+    } else {
+        io::write_all(1, b" changed\n");
+    }
+}
+
+pub fn worked() {
+    tried(b"H 4096:", plain(4096, 1));
+    tried(b"H 4097:", plain(4097, 1));
+    tried(b"64 jobs:", plain(4096, 64));
+    tried(b"65 jobs:", plain(4096, 65));
+    tried(b"(4,4,1):", single(4, 4, 1));
+    tried(b"(3,4,1):", single(3, 4, 1));
+    tried(b"(0,4,0):", single(0, 4, 0));
+    tried(b"d = H:", single(0, 8, 1));
+    tried(b"d = H + 1:", single(0, 9, 1));
+}
+
+// Each refusal by itself, and what is next to it.
+pub fn refused() {
+    tried(b"H 0:", plain(0, 0));
+    tried(b"H 1, no jobs:", plain(1, 0));
+    tried(b"H 65535:", plain(65535, 1));
+    tried(b"a deadline less:", with_lengths(plain(8, 2), 2, 1, 2));
+    tried(b"a volume more:", with_lengths(plain(8, 2), 2, 2, 3));
+    tried(
+        b"first job faulty:",
+        with_odd(plain(4096, 64), 0, 0, 9, 8, 1),
+    );
+    tried(
+        b"last job faulty:",
+        with_odd(plain(4096, 64), 63, 63, 0, 4096, 0),
+    );
+    tried(
+        b"two jobs faulty:",
+        with_odd(plain(4096, 64), 41, 17, 0, 4097, 1),
+    );
+    tried(b"table of H - 1:", with_room(plain(8, 2), 7));
+    tried(b"table of H:", with_room(plain(8, 2), 8));
+    tried(b"overload:", single(2, 5, 4));
+}
+
+// Lists with several faults: the first in the order is told.
+pub fn ordered() {
+    let faulty = with_odd(plain(8, 65), 0, 0, 4, 4, 1);
+    let unequal = with_room(with_lengths(faulty, 65, 65, 64), 0);
+    let mut all = unequal;
+    all.h = 0;
+    tried(b"12 before 19:", all);
+    tried(b"19 before 12:", unequal);
+    tried(b"12 before 15:", with_room(faulty, 0));
+    tried(
+        b"15 before 17:",
+        with_room(with_odd(plain(1, 3), 2, 2, 0, 1, 0), 0),
+    );
+    tried(b"15 before 18:", with_odd(plain(1, 3), 2, 2, 0, 1, 0));
+    tried(b"17 before 18:", with_room(plain(1, 3), 0));
+    tried(b"18 alone:", plain(1, 3));
+}

@@ -1,0 +1,76 @@
+// The comparison over all lists.
+ghost use Prim.Native.Nat.{_<_};
+use crate::compare::Tally;
+use crate::compare::compare;
+use crate::compare::plus;
+use crate::lists::drawn;
+use crate::lists::listed;
+use crate::lists::valid;
+
+fn nothing() -> Tally {
+    Tally {
+        lists: 0,
+        overloaded: 0,
+        differing: 0,
+        energy: 0,
+        added: 0,
+    }
+}
+
+// The tally of the lists of n jobs with a horizon of at most m that have a number below `end`.
+fn every(n: u32, m: u32, end: u32) -> Tally
+    requires { ⌜ 0 < m ⌝ }
+{
+    let mut tally = nothing();
+    let mut code = 0;
+    while code < end {
+        let l = listed(n, m, code);
+        if valid(l) {
+            tally = plus(tally, compare(l));
+        }
+        code += 1;
+    }
+    tally
+}
+
+fn some(count: u32) -> Tally {
+    let mut tally = nothing();
+    let mut seed: u64 = 1;
+    let mut i = 0;
+    while i < count {
+        let next = drawn(seed);
+        let l = next.list;
+        seed = next.seed;
+        tally = plus(tally, compare(l));
+        i += 1;
+    }
+    tally
+}
+
+fn field(name: &[u8], x: u64) {
+    io::write_all(1, name);
+    io::print_decimal(1, x);
+}
+
+fn show(t: Tally) {
+    field(b" lists ", t.lists);
+    field(b" overloaded ", t.overloaded);
+    field(b" differing ", t.differing);
+    field(b" energy ", t.energy);
+    field(b" added ", t.added);
+    io::write_all(1, b"\n");
+}
+
+// The numbers of all lists of n jobs lie below 5 m^(3 n + 1).
+pub fn all() {
+    io::write_all(1, b"no job:");
+    show(every(0, 8, 40));
+    io::write_all(1, b"one job:");
+    show(every(1, 8, 20480));
+    io::write_all(1, b"two jobs:");
+    show(every(2, 8, 10485760));
+    io::write_all(1, b"three jobs:");
+    show(every(3, 5, 48828125));
+    io::write_all(1, b"drawn:");
+    show(some(200000));
+}

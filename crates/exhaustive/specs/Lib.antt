@@ -1,0 +1,2 @@
+-- What the contracts of the exhaustive search cite.
+pub mod Bounds

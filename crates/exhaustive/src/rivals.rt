@@ -1,0 +1,53 @@
+// The least energy over every feasible table.
+use crate::placement::after;
+use crate::placement::can_run;
+use crate::small::Small;
+ghost use Prim.Native.Nat.{_≤_, _+_, _*_};
+
+// This much or more stands for no table at all; eight slots cost less.
+pub const NONE: u32 = 1000000;
+
+fn lesser(a: u32, b: u32) -> u32
+    ensures { λ r. ⌜ r ≤ b ⌝ }
+{
+    if a < b { a } else { b }
+}
+
+// What an awake slot costs: a run is paid in its last slot.
+fn awake_slot(q: u16, later_awake: bool) -> u32
+    ensures { λ r. ⌜ r ≤ 65536 ⌝ }
+{
+    if later_awake { 1 } else { 1 + q as u32 }
+}
+
+// The least energy of the slots below `slots` over all ways to complete a table whose later part
+// leaves the units `left`. Slot `slots - 1` holds 254, 255 or one of the jobs below `jobs`, every
+// earlier slot 254, 255 or any job.
+fn least(l: Small, left: u32, slots: u32, jobs: u32, later_awake: bool) -> u32
+    requires { ⌜ (jobs ≤ 4) × (slots ≤ 8) ⌝ }
+    ensures { λ r. ⌜ r ≤ 1000000 + 65536 * slots ⌝ }
+{
+    if slots == 0 {
+        return if left == 0 { 0 } else { NONE };
+    }
+    let t = slots - 1;
+    let here = awake_slot(l.q, later_awake);
+    if jobs == 0 {
+        return lesser(
+            least(l, left, t, 4, false),
+            here + least(l, left, t, 4, true),
+        );
+    }
+    let j = jobs - 1;
+    let without = least(l, left, slots, j, later_awake);
+    if !can_run(l, 255, left, j, t) {
+        return without;
+    }
+    lesser(without, here + least(l, after(left, j), t, 4, true))
+}
+
+pub fn least_energy(l: Small) -> u32
+    ensures { λ r. ⌜ r ≤ 1524288 ⌝ }
+{
+    least(l, l.p, l.h % 9, 4, false)
+}

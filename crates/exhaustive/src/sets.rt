@@ -1,0 +1,97 @@
+// Sets of slots: bit t is slot t. What they cost, and step 2 over all of them.
+use crate::small::Small;
+use crate::small::bit;
+use crate::small::digit;
+ghost use Prim.Native.Nat.{_<_, _≤_};
+
+pub struct Cost {
+    pub energy: u32,
+    pub awake: u32,
+    pub runs: u32,
+}
+
+// 1 where slot t is awake after a sleeping slot, else 0; before slot 0 the processor sleeps.
+fn starts(set: u32, t: u32) -> u32
+    ensures { λ r. ⌜ r < 2 ⌝ }
+{
+    if 0 < t && bit(set, t - 1) == 1 {
+        return 0;
+    }
+    bit(set, t)
+}
+
+// What slot t adds to the energy.
+fn spent(q: u16, set: u32, t: u32) -> u32
+    ensures { λ r. ⌜ r ≤ 65536 ⌝ }
+{
+    if starts(set, t) == 1 {
+        return 1 + q as u32;
+    }
+    bit(set, t)
+}
+
+pub fn cost_of(q: u16, set: u32) -> Cost
+    ensures { λ r. ⌜ (r .energy ≤ 524288) × (r .awake ≤ 8) × (r .runs ≤ 8) ⌝ }
+{
+    let mut energy = 0;
+    let mut awake = 0;
+    let mut runs = 0;
+    for t in 0..8 {
+        energy += spent(q, set, t);
+        awake += bit(set, t);
+        runs += starts(set, t);
+    }
+    Cost {
+        energy,
+        awake,
+        runs,
+    }
+}
+
+// Whether the set has a slot among r-1 to d of job j, as far as these lie below h.
+fn touches(l: Small, j: u32, set: u32) -> bool {
+    for t in 0..8 {
+        if t < l.h && digit(l.r, j) <= t + 1 && t <= digit(l.d, j) && bit(set, t) == 1 {
+            return true;
+        }
+    }
+    false
+}
+
+fn is_skeleton(l: Small, set: u32) -> bool {
+    for j in 0..4 {
+        if j < l.n && !touches(l, j, set) {
+            return false;
+        }
+    }
+    true
+}
+
+// Whether x is asleep in the first slot in which the two sets differ.
+fn precedes(x: u32, y: u32) -> bool {
+    for t in 0..8 {
+        if bit(x, t) != bit(y, t) {
+            return bit(x, t) == 0;
+        }
+    }
+    false
+}
+
+// Whether x costs less than y, or as much and comes first.
+fn better(q: u16, x: u32, y: u32) -> bool {
+    let a = cost_of(q, x);
+    let b = cost_of(q, y);
+    a.energy < b.energy || a.energy == b.energy && precedes(x, y)
+}
+
+// Step 2. All slots together are a skeleton of every list.
+pub fn least_skeleton(l: Small) -> u32 {
+    let all = 255 >> (8 - l.h % 9);
+    let mut best = all;
+    for set in 0..256 {
+        if set <= all && is_skeleton(l, set) && better(l.q, set, best) {
+            best = set;
+        }
+    }
+    best
+}
