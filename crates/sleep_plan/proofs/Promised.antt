@@ -1,0 +1,94 @@
+-- From what the reader, the planner and the block's functions promise to what the entry promises, return by return.
+use Prim.Native.Nat.{ℕ, _≤_, _<_}
+use mathlib.Core.Path.{_≡_, sym, ap, subst, _∙_}
+use mathlib.Core.List.{List, [], _∷_}
+use native.Mathlib.Omega.{arith}
+use lib.ListN.{length, getD, take, drop}
+use Rattle.sched.specs.Refusals.{number, place}
+use Rattle.sched.specs.Jobs.{Jobs}
+use Rattle.sched.specs.Checks.{Passes}
+use Rattle.sched.specs.Outcomes.{plan, outcomeNumber, outcomeValues}
+use Rattle.sched.specs.declared.Refusal.{Refusal}
+use Rattle.sched.specs.declared.Checked.the-variants.{Passed, Refused as Faulty}
+use Rattle.sched.specs.declared.Outcome.{Outcome}
+use Rattle.demands.specs.Rivals as demands
+use Rattle.joblist.specs.Reading.{listOf}
+use Rattle.joblist.specs.Laws.Passing.{refused-not-passed}
+use Rattle.sleep_plan.specs.Block.{blockLength, answered, numberIn}
+use Rattle.sleep_plan.specs.Block.Laws.{one-number}
+use Rattle.sleep_plan.specs.Puts.{Puts, PutsOutcome}
+use Rattle.sleep_plan.specs.Entry.{Answer, listCheck, Entry, inBlock, entry}
+use Rattle.sleep_plan.specs.Entry.Places.{Within, read-within}
+use Rattle.joblist.specs.Bytes.{spelling}
+use Rattle.joblist.specs.Laws.Fields.{AreBytes}
+use Rattle.joblist.specs.Laws.Input.{read-passed, read-passes}
+use Rattle.joblist.specs.Laws.Lists.{list-passes, list-back, spelling-good}
+use Rattle.sleep_plan.specs.Entry.Laws.{entry-short, entry-answers, answer-refused, answer-planned}
+use Rattle.sleep_plan.specs.Promises.{AgainstRivals, Promise}
+use Rattle.sleep_plan.proofs.Answers.{plan-fits, outcome-numbers, against}
+
+-- the bytes of a list that passes the list checks are read, to that list
+spelled-reads : (J : Jobs) (list : List ℕ) → Passes J → list ≡ spelling J → listCheck list ≡ Passed
+spelled-reads J list p e =
+    rw e (read-passes (spelling J) 64 64 64 (spelling-good J 64 64 64 p (record { releases = p .few; deadlines = p .few; volumes = p .few })))
+
+spelled-is : (J : Jobs) (list : List ℕ) → Passes J → list ≡ spelling J → listOf list ≡ J
+spelled-is J list p e = ap listOf e ∙ list-back J p
+
+-- a short block
+pub promise-short : (list table block : List ℕ) → length block < blockLength → Promise list table block 17 table block
+promise-short list table block l =
+    let e = sym (entry-short list table block l) in
+    record {
+      returned = ap (λ (x : Entry). x .number) e;
+      table = ap (λ (x : Entry). x .table) e;
+      block = ap (λ (x : Entry). x .block) e;
+      numbers = λ m i k. absurd (omega arith);
+      rivals = λ J p e h m. absurd (omega arith);
+      rivals-of-bytes = λ p h m. absurd (omega arith);
+    }
+
+-- a list that the reader refuses
+pub promise-refused : (list table block block′ : List ℕ) (n : ℕ) (r : Refusal) → blockLength ≤ length block → listCheck list ≡ Faulty r → Puts (number r) (place r ∷ []) block n block′ → Promise list table block n table block′
+promise-refused list table block block′ n r l f puts =
+    let a = answer-refused list table r f in
+    let e = sym (entry-answers list table block l ∙ ap (λ (x : Answer). inBlock x block) a) in
+    let within : place r ≤ 524 = subst (Within 524) f (read-within list 64 64 64) in
+    record {
+      returned = puts .returned ∙ ap (λ (x : Entry). x .number) e;
+      table = ap (λ (x : Entry). x .table) e;
+      block = puts .block ∙ ap (λ (x : Entry). x .block) e;
+      numbers = λ m i k.
+          ap (λ (b : List ℕ). numberIn b i) (puts .block)
+          ∙ one-number (place r) (drop blockLength block) (omega arith) i k
+          ∙ ap (λ (x : Answer). getD (x .values) i 0) (sym a);
+      rivals = λ J p e h m. refused-not-passed r (sym f ∙ spelled-reads J list p e);
+      rivals-of-bytes = λ p h m. refused-not-passed r (sym f ∙ p);
+    }
+
+-- a list that was read; J is what the planner was handed
+pub promise-planned : (list table block table′ block′ : List ℕ) (n : ℕ) (o : Outcome) (J : Jobs) → AreBytes list → blockLength ≤ length block → listCheck list ≡ Passed → J ≡ listOf list → o ≡ plan J table .answer → table′ ≡ plan J table .table → (Passes J → J .horizon ≤ length table → demands.AgainstRivals J o (take (J .horizon) table′)) → PutsOutcome o block n block′ → Promise list table block n table′ block′
+promise-planned list table block table′ block′ n o J small l p same told kept rivals puts =
+    let K = listOf list in
+    let passes = list-passes list 64 64 64 small (read-passed list 64 64 64 p) in
+    let t : o ≡ plan K table .answer = told ∙ ap (λ (x : Jobs). plan x table .answer) same in
+    let k : table′ ≡ plan K table .table = kept ∙ ap (λ (x : Jobs). plan x table .table) same in
+    let ours : Passes K → K .horizon ≤ length table → demands.AgainstRivals K o (take (K .horizon) table′) =
+    subst (λ (x : Jobs). Passes x → x .horizon ≤ length table → demands.AgainstRivals x o (take (x .horizon) table′)) same rivals in
+    let a = answer-planned list table p in
+    let e = sym (entry-answers list table block l ∙ ap (λ (x : Answer). inBlock x block) a) in
+    let fits = plan-fits K passes table table′ o t (ours passes) (puts .fits) in
+    let back : (i : ℕ) → i < 4 → numberIn block′ i ≡ getD (outcomeValues o) i 0 =
+    (λ i b. ap (λ (x : List ℕ). numberIn x i) (puts .puts .block) ∙ outcome-numbers o (drop blockLength block) fits i b) in
+    let held : K .horizon ≤ length table → AgainstRivals K n (take (K .horizon) table′) block′ =
+    (λ h. against K o (take (K .horizon) table′) block block′ n (ours passes h) (puts .puts) back) in
+    record {
+      returned = puts .puts .returned ∙ ap outcomeNumber t ∙ ap (λ (x : Entry). x .number) e;
+      table = k ∙ ap (λ (x : Entry). x .table) e;
+      block = puts .puts .block ∙ ap (λ (x : Outcome). answered (outcomeValues x) block) t ∙ ap (λ (x : Entry). x .block) e;
+      numbers = λ m i b. back i b ∙ ap (λ (x : Outcome). getD (outcomeValues x) i 0) t ∙ ap (λ (x : Answer). getD (x .values) i 0) (sym a);
+      rivals = λ L q s h m.
+          let is : K ≡ L = spelled-is L list q s in
+          subst (λ (x : Jobs). x .horizon ≤ length table → AgainstRivals x n (take (x .horizon) table′) block′) is held h;
+      rivals-of-bytes = λ _ h m. held h;
+    }

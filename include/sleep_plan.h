@@ -1,0 +1,126 @@
+/* sleep_plan.h - a sleep plan for one processor, from a list of jobs.
+ *
+ * Time is cut into H slots, numbered 0 to H-1. In each slot the processor is asleep, awake and idle, or runs one job. A job has a release
+ * r, a deadline d and a volume p: it must run in exactly p of the slots r to d-1, in one piece or in several. A run is a longest stretch
+ * of awake slots; before slot 0 the processor sleeps. A plan costs 1 for each awake slot and the wake cost q for each run. The planner
+ * gives a plan that serves every job, at a cost of at most the cheapest possible plan's plus the sum of all volumes, or says that no plan
+ * exists.
+ *
+ * One call does it all. It uses the three buffers it is given and a little stack: no heap, no file, no clock, no global variable. It may
+ * be called from several threads at once, each with its own buffers. It always returns.
+ */
+#ifndef SLEEP_PLAN_H
+#define SLEEP_PLAN_H
+
+#include <stddef.h>
+#include <stdint.h>
+
+#ifdef __cplusplus
+extern "C" {
+#endif
+
+/* Sizes. A list has at most SLEEP_PLAN_LIST_MAX bytes, a plan at most SLEEP_PLAN_TABLE_MAX slots. */
+#define SLEEP_PLAN_JOBS_MAX 64
+#define SLEEP_PLAN_LIST_MAX 453
+#define SLEEP_PLAN_TABLE_MAX 4096
+#define SLEEP_PLAN_BLOCK_MIN 16
+
+/* Bytes of the table that are no job number. */
+#define SLEEP_PLAN_IDLE 254
+#define SLEEP_PLAN_ASLEEP 255
+
+/* Returned numbers. "Place" is the first number of the block. */
+#define SLEEP_PLAN_PLANNED 0       /* the table holds a plan; the block holds cost, awake slots, runs, added slots */
+#define SLEEP_PLAN_TRUNCATED 11    /* the list ends too early; place: its length */
+#define SLEEP_PLAN_OUT_OF_RANGE 12 /* place 0: H is not 1 to 4096; place 4: more than 64 jobs */
+#define SLEEP_PLAN_UNKNOWN_BIT 13  /* a map byte has one of bits 3 to 7; place: its offset in the list */
+#define SLEEP_PLAN_REDUNDANT 14    /* a field is spelled out although it has its absent value; place: the field's offset */
+#define SLEEP_PLAN_BAD_JOB 15      /* r is not below d, or d is above H, or p is 0; place: the job's number */
+#define SLEEP_PLAN_LEFT_OVER 16    /* bytes follow the last job; place: the offset of the first of them */
+#define SLEEP_PLAN_TOO_SHORT 17    /* the table has fewer than H bytes; place: H. Or the block has fewer than 16 bytes: then nothing
+                                      is written, and there is no place */
+#define SLEEP_PLAN_OVERLOADED 18   /* no plan exists; the block's first two numbers are a and b: the jobs with a <= r and d <= b have
+                                      more volume together than the b - a slots between a and b */
+
+/* Plans the jobs of a list.
+ *
+ * list, list_len    The job list, in the bytes described below. It is only read. Any bytes may be given: what is no list is refused.
+ * table, table_len  The plan goes to its first H bytes, one byte a slot: a job's number (0 to 63, in the order of the list),
+ *                   SLEEP_PLAN_IDLE or SLEEP_PLAN_ASLEEP. It needs H bytes; SLEEP_PLAN_TABLE_MAX are always enough.
+ * block, block_len  The answer block. It needs SLEEP_PLAN_BLOCK_MIN bytes: four numbers of four bytes each, low byte first.
+ *
+ * All three belong to the caller, before, during and after the call; no pointer is kept. A pointer may be NULL where its length is 0.
+ * No alignment is needed.
+ *
+ * Returns SLEEP_PLAN_PLANNED, SLEEP_PLAN_OVERLOADED, or the number of a refusal. What is written:
+ *
+ *   returned                  first H bytes of table    first 16 bytes of block
+ *   0                         the plan                  cost, awake slots, runs, added
+ *   18                        unchanged                 a, b, 0, 0
+ *   11 to 16, 17 for table    unchanged                 place, 0, 0, 0
+ *   17, block_len below 16    unchanged                 unchanged
+ *
+ * Bytes of the table behind the first H, and bytes of the block behind the first 16, are never changed; the list never is.
+ * The cost is the number of awake slots plus q times the number of runs. "Added" counts the slots that the planner woke for volume after
+ * it had chosen where to be awake at all; it is of interest for comparing plans only.
+ *
+ * Checks are made in this order, and the first that fails is told: the block's length (17); the list's header (11, then 12 at 0, then 12
+ * at 4); for each job in turn its map byte (11, 13), its fields (11, 14 in the order release, deadline, volume) and their values (15);
+ * bytes behind the last job (16); the table's length (17); overload (18).
+ *
+ * The caller's duty: each buffer is valid for its length (list for reading, table and block for writing) until the call returns, nobody
+ * else writes to them meanwhile, and no two of them share a byte. If buffers do share bytes, the call still touches nothing outside the
+ * three of them and still returns, but what it returns and what the three hold afterwards is not specified.
+ *
+ * The bytes of a list:
+ *
+ *   offset  bytes
+ *   0       2      H, the number of slots, 1 to 4096, low byte first
+ *   2       2      q, the cost of a wake, 0 to 65535, low byte first
+ *   4       1      the number of jobs, 0 to 64
+ *   5              the jobs, one behind the other:
+ *                    1 byte   map: bit 0 set if a release follows, bit 1 if a deadline, bit 2 if a volume
+ *                    2 bytes  release, low byte first; not there if it is 0
+ *                    2 bytes  deadline, low byte first; not there if it is H
+ *                    2 bytes  volume, low byte first; not there if it is 1
+ *
+ * A field that has its absent value must not be there, so each list has just one spelling.
+ *
+ * A complete example, which prints "cost 14, awake 8, runs 2" and "0 2 2 2 2 2 255 255 1 1":
+ *
+ *   #include <stdio.h>
+ *   #include "sleep_plan.h"
+ *
+ *   static unsigned long number(const uint8_t *block, int i) {
+ *     const uint8_t *p = block + 4 * i;
+ *     return p[0] | (unsigned long)p[1] << 8 | (unsigned long)p[2] << 16 | (unsigned long)p[3] << 24;
+ *   }
+ *
+ *   int main(void) {
+ *     // 10 slots, a wake costs 3; jobs (0, 3, 1), (8, 10, 2), (0, 10, 5)
+ *     const uint8_t list[] = { 10, 0, 3, 0, 3,
+ *                              2, 3, 0,
+ *                              5, 8, 0, 2, 0,
+ *                              4, 5, 0 };
+ *     uint8_t table[10], block[SLEEP_PLAN_BLOCK_MIN];
+ *     uint32_t r = sleep_plan(list, sizeof list, table, sizeof table, block, sizeof block);
+ *     if (r == SLEEP_PLAN_OVERLOADED) {
+ *       printf("too much to do from slot %lu up to slot %lu\n", number(block, 0), number(block, 1));
+ *       return 1;
+ *     }
+ *     if (r != SLEEP_PLAN_PLANNED) {
+ *       printf("refused: %lu at %lu\n", (unsigned long)r, number(block, 0));
+ *       return 1;
+ *     }
+ *     printf("cost %lu, awake %lu, runs %lu\n", number(block, 0), number(block, 1), number(block, 2));
+ *     for (int t = 0; t < 10; t++) printf("%d%c", table[t], t < 9 ? ' ' : '\n');
+ *     return 0;
+ *   }
+ */
+uint32_t sleep_plan(const uint8_t *list, size_t list_len, uint8_t *table, size_t table_len, uint8_t *block, size_t block_len);
+
+#ifdef __cplusplus
+}
+#endif
+
+#endif
