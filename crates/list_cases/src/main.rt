@@ -44,14 +44,7 @@ fn write_back(
     show::all_kept(list.count, releases, deadlines, volumes);
 }
 
-fn write_same(
-    h: u16,
-    q: u16,
-    bytes: &[u8],
-    releases: &[u16],
-    deadlines: &[u16],
-    volumes: &[u16],
-) {
+fn write_same(h: u16, q: u16, bytes: &[u8], releases: &[u16], deadlines: &[u16], volumes: &[u16]) {
     let mut out = [9u8; 454];
     match joblist::write(h, q, releases, deadlines, volumes, &mut out) {
         ListWritten::Written(n) => show::same(n, bytes, &out),
@@ -646,14 +639,22 @@ fn writer() {
     write_example(10, 0, 3, &mut out);
 }
 
+// No job, or just the one.
+fn write_few(n: usize, h: u16, q: u16, r: u16, d: u16, p: u16, out: &mut [u8]) {
+    let rs = [r];
+    let ds = [d];
+    let ps = [p];
+    write(h, q, first(&rs, n), first(&ds, n), first(&ps, n), out);
+}
+
 // No job, one job, and 17 at its first place.
 fn short_writer() {
     let mut out = [9u8; 16];
     let mut short = [9u8; 4];
-    write(4096, 65535, &[], &[], &[], &mut out);
-    write(10, 3, &[4], &[4], &[1], &mut out);
-    write(10, 3, &[4], &[5], &[0], &mut out);
-    write(4096, 65535, &[], &[], &[], &mut short);
+    write_few(0, 4096, 65535, 0, 0, 0, &mut out);
+    write_few(1, 10, 3, 4, 4, 1, &mut out);
+    write_few(1, 10, 3, 4, 5, 0, &mut out);
+    write_few(0, 4096, 65535, 0, 0, 0, &mut short);
 }
 
 // 64 jobs (1, 2, 65535), 453 bytes long, but for the first and the last release.
