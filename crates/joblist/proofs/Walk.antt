@@ -1,24 +1,24 @@
 -- The walk over the entries of a list: an entry that passes, one that does not, and the end; and the lists that a second walk fills.
 -- `rest` is what is left of the input at offset `at`.
-use Prim.Native.Nat.{ℕ, zero, suc, _+_, _-_, _≤_, _<_}
+use Prim.Native.Nat.{ℕ, suc, _+_, _-_, _≤_, _<_}
 use mathlib.Core.Path.{_≡_, refl, ap, _∙_, sym}
-use mathlib.Core.List.{List, [], _∷_, _++_}
+use mathlib.Core.List.{List, _∷_, _++_}
 use native.Mathlib.Numerals.{add-one}
 use native.Mathlib.Nat.{zero-add}
 use native.Mathlib.Omega.{arith}
 use borrow.Author.Tests.{eq-eqb, ne-eqb}
-use lib.ListN.{length, getD, take, drop, set, length-drop, length-set}
+use lib.ListN.{length, take, drop, set, length-drop, length-set}
 use lib.Seq.{take-all, drop-drop, sets, sets-eq}
 use Rattle.sched.specs.Checks.{andThen}
+use Rattle.sched.specs.Checks.Laws.{then-passed}
 use Rattle.sched.specs.declared.Refusal.{Refusal}
 use Rattle.sched.specs.declared.Refusal.the-variants.{LeftOver}
 use Rattle.sched.specs.declared.Checked.{Checked}
 use Rattle.sched.specs.declared.Checked.the-variants.{Passed, Refused}
 use Rattle.joblist.specs.Bytes.{headerLength, entryLength}
 use Rattle.joblist.specs.Reading.{mapOf, entryCheck, entriesCheck, column}
-use Rattle.joblist.specs.Laws.Passing.{then-passed}
 use Rattle.joblist.specs.Laws.Column.{column-length}
-use Rattle.joblist.specs.Laws.Entry.{GoodEntry, entry-passed}
+use Rattle.joblist.specs.Laws.Entry.{entry-passed}
 
 -- a part that runs to the end
 pub part-rest : (at : ℕ) (bytes : List ℕ) → take (length bytes - at) (drop at bytes) ≡ drop at bytes

@@ -6,20 +6,17 @@ use mathlib.Core.List.{List, _++_}
 use native.Mathlib.Omega.{arith}
 use lib.ListN.{length, take, drop}
 use lib.Seq.{take-at}
-use Rattle.sched.specs.Jobs.{Jobs, count}
+use Rattle.sched.specs.Jobs.{Jobs, jobsOf, count}
 use Rattle.sched.specs.Checks.{Passes}
-use Rattle.sched.specs.declared.Refusal.{Refusal}
 use Rattle.sched.specs.declared.Checked.{Checked}
 use Rattle.sched.specs.declared.Checked.the-variants.{Passed, Refused as Faulty}
 use Rattle.joblist.specs.Bytes.{headerLength, headerHorizon, headerWake, headerCount, spelling}
 use Rattle.joblist.specs.Reading.{releaseOf, deadlineOf, volumeOf, readCheck, column, listOf, Reading, accepted, reading}
-use Rattle.joblist.specs.Writing.{jobsOf}
 use Rattle.joblist.specs.Laws.Column.{column-length}
-use Rattle.joblist.specs.Laws.Input.{Room, GoodInput, read-passed, read-passes, reading-accepted, reading-refused}
+use Rattle.joblist.specs.Laws.Input.{Room, read-passed, read-passes, reading-accepted, reading-refused}
 use Rattle.joblist.specs.Laws.Fields.{AreBytes}
 use Rattle.joblist.specs.Laws.Lists.{same-list, list-back, spelling-good, count-back, input-again, list-passes}
 use Rattle.joblist.specs.declared.ListHeader.{ListHeader}
-use Rattle.joblist.specs.declared.ListRead.{ListRead}
 use Rattle.joblist.specs.declared.ListRead.the-variants.{Read, Refused}
 
 -- the reading that hands over just the list J, past which the lent lists keep their entries

@@ -1,7 +1,6 @@
 -- 01, "Job list bytes" and "Refused, and where": the list writer. Its answer and the lent buffer afterwards, for every input.
 use Prim.Native.Nat.{ℕ}
 use mathlib.Core.Path.{_≡_}
-use mathlib.Core.Bool.{Bool, true, false}
 use mathlib.Core.List.{List, [], _∷_, _++_}
 use lib.ListN.{length, drop}
 use lib.Dec.{ltb}
@@ -33,10 +32,6 @@ afterCheck (Faulty r) J out = record { answer = Refused r; out = out }
 
 unfoldable pub writing : Jobs → List ℕ → Writing
 writing J out = afterCheck (writeCheck J (length out)) J out
-
--- the lists that a call names
-abbrev pub jobsOf : ℕ → ℕ → List ℕ → List ℕ → List ℕ → Jobs
-jobsOf h q rs ds ps = record { horizon = h; wake = q; releases = rs; deadlines = ds; volumes = ps }
 
 -- 01's number and values of an answer: 0 with the length; a refusal's number with its place
 abbrev pub writtenNumber : ListWritten → ℕ

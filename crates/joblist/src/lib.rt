@@ -1,6 +1,7 @@
 // Job lists as bytes: a reader that fills three lent lists, and a writer that spells three lists out.
+ghost use Rattle.sched.specs.Jobs.{jobsOf};
 ghost use Rattle.joblist.specs.Reading.{ReadPromise};
-ghost use Rattle.joblist.specs.Writing.{jobsOf, WritePromise};
+ghost use Rattle.joblist.specs.Writing.{WritePromise};
 use sched::Checked;
 use sched::Refusal;
 

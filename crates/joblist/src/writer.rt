@@ -4,8 +4,8 @@ ghost use mathlib.Core.List.{[], _∷_, _++_};
 ghost use Prim.Native.Nat.{_+_, _≤_};
 ghost use lib.ListN.{length};
 ghost use lib.Seq.{sets};
+ghost use Rattle.sched.specs.Jobs.{jobsOf};
 ghost use Rattle.joblist.specs.Bytes.{headerLength, spelled, absentRelease, absentDeadline, absentVolume, bit, mapByte, stands, bytesIf, entryBytes, entriesBytes, spelling};
-ghost use Rattle.joblist.specs.Writing.{jobsOf};
 ghost use Rattle.joblist.specs.Helpers.{EqualLists, Puttable, PutAt};
 
 fn bit(stands: bool) -> u8

@@ -3,19 +3,19 @@
 use Prim.Native.Nat.{ℕ}
 use mathlib.Core.Path.{_≡_, refl}
 use mathlib.Core.List.{List, [], _∷_}
-use Rattle.sched.specs.Jobs.{Jobs}
+use Rattle.sched.specs.Jobs.{Jobs, jobsOf}
 use Rattle.sched.specs.Checks.{checkFrom}
 use Rattle.sched.specs.Slots.{times, awakeOf}
 use Rattle.sched.specs.Energy.{awakeSlots, runsFrom}
 use Rattle.sched.specs.declared.Refusal.the-variants.{BadByte, TooOften, OutOfSpan, TooRare}
 use Rattle.judge.specs.declared.Judged.the-variants.{Accepted, Refused}
 use Rattle.judge.specs.Faults.{slotsFrom, rareFrom, tableCheck}
-use Rattle.judge.specs.Verdict.{lent, judgedTable, judged}
+use Rattle.judge.specs.Verdict.{judgedTable, judged}
 use Rattle.judge.specs.Stretches.{leading, stretchesFrom, stretches}
 
 -- H 10, q 3, (0,3,1) (8,10,2) (0,10,5)
 abbrev third : Jobs
-third = lent 10 3 (0 ∷ 8 ∷ 0 ∷ []) (3 ∷ 10 ∷ 10 ∷ []) (1 ∷ 2 ∷ 5 ∷ [])
+third = jobsOf 10 3 (0 ∷ 8 ∷ 0 ∷ []) (3 ∷ 10 ∷ 10 ∷ []) (1 ∷ 2 ∷ 5 ∷ [])
 
 abbrev thirdTable : List ℕ
 thirdTable = 0 ∷ 2 ∷ 2 ∷ 2 ∷ 2 ∷ 2 ∷ 255 ∷ 255 ∷ 1 ∷ 1 ∷ []
@@ -30,7 +30,7 @@ third-stretches = refl
 
 -- one job (0,2,1) in three slots
 abbrev small : Jobs
-small = lent 3 0 (0 ∷ []) (2 ∷ []) (1 ∷ [])
+small = jobsOf 3 0 (0 ∷ []) (2 ∷ []) (1 ∷ [])
 
 -- slot 2 repeats the job and lies outside its span: 22 comes first
 pub named-twice : judged small (255 ∷ 0 ∷ 0 ∷ []) ≡ Refused (TooOften 2)

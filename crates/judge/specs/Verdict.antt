@@ -18,10 +18,6 @@ use Rattle.judge.specs.declared.Judged.the-variants.{Accepted, Refused}
 use Rattle.judge.specs.Faults.{tableCheck}
 pub mod Laws
 
--- the list that is lent as two numbers and three lists of fields
-abbrev pub lent : ℕ → ℕ → List ℕ → List ℕ → List ℕ → Jobs
-lent h q rs ds ps = record { horizon = h; wake = q; releases = rs; deadlines = ds; volumes = ps }
-
 -- a table without a fault is told its figures
 abbrev pub accepts : Checked → Figures → Judged
 accepts Passed f = Accepted f

@@ -3,8 +3,9 @@ ghost use mathlib.Core.Path.{_≡_};
 ghost use Prim.Native.Nat.{_≤_};
 ghost use lib.ListN.{length, getD};
 ghost use lib.Dec.{leb};
+ghost use Rattle.sched.specs.Jobs.{jobsOf};
 ghost use Rattle.judge.specs.Faults.{Sized, slotFault, rareFrom, tableCheck};
-ghost use Rattle.judge.specs.Verdict.{lent, judgedTable, Judges};
+ghost use Rattle.judge.specs.Verdict.{judgedTable, Judges};
 use sched::Checked;
 use sched::Figures;
 use sched::Refusal;
@@ -100,7 +101,7 @@ fn judge_table(
     table: &[u8],
 ) -> Judged
     requires { ⌜ Sized (now releases) (now deadlines) (now volumes) × (h ≤ 4096) ⌝ }
-    ensures { λ r. ⌜ r ≡ judgedTable (lent h q (now (releases .entry)) (now (deadlines .entry)) (now (volumes .entry))) (now (table .entry)) ⌝ }
+    ensures { λ r. ⌜ r ≡ judgedTable (jobsOf h q (now (releases .entry)) (now (deadlines .entry)) (now (volumes .entry))) (now (table .entry)) ⌝ }
 {
     let end = h as usize;
     if table.len() < end {
@@ -122,7 +123,7 @@ pub fn judge(
     volumes: &[u16],
     table: &[u8],
 ) -> Judged
-    ensures { λ r. ⌜ Judges (lent h q (now (releases .entry)) (now (deadlines .entry)) (now (volumes .entry))) (now (table .entry)) r ⌝ }
+    ensures { λ r. ⌜ Judges (jobsOf h q (now (releases .entry)) (now (deadlines .entry)) (now (volumes .entry))) (now (table .entry)) r ⌝ }
 {
     match sched::check_list(h, releases, deadlines, volumes) {
         Checked::Passed => judge_table(h, q, releases, deadlines, volumes, table),

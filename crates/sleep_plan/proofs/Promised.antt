@@ -13,7 +13,7 @@ use Rattle.sched.specs.declared.Checked.the-variants.{Passed, Refused as Faulty
 use Rattle.sched.specs.declared.Outcome.{Outcome}
 use Rattle.demands.specs.Rivals as demands
 use Rattle.joblist.specs.Reading.{listOf}
-use Rattle.joblist.specs.Laws.Passing.{refused-not-passed}
+use Rattle.sched.specs.Checks.Laws.{refused-not-passed}
 use Rattle.sleep_plan.specs.Block.{blockLength, answered, numberIn}
 use Rattle.sleep_plan.specs.Block.Laws.{one-number}
 use Rattle.sleep_plan.specs.Puts.{Puts, PutsOutcome}

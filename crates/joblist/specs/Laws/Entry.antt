@@ -1,6 +1,6 @@
 -- The checks of an entry, one by one.
 use Prim.Native.Nat.{ℕ, _+_, _≤_, _<_}
-use mathlib.Core.Path.{_≡_, refl}
+use mathlib.Core.Path.{_≡_}
 use mathlib.Core.Bool.{Bool, false}
 use mathlib.Core.List.{List}
 use native.Mathlib.Omega.{arith}
@@ -8,12 +8,12 @@ use borrow.Author.Tests.{leb-false, ltb-false, eqb-false, lt-leb, le-ltb, ne-eqb
 use lib.ListN.{length, drop}
 use lib.Dec.{ltb, eqb}
 use Rattle.sched.specs.Checks.{unless, jobCheck}
+use Rattle.sched.specs.Checks.Laws.{unless-passed}
 use Rattle.sched.specs.declared.Refusal.the-variants.{Truncated, UnknownBit, Redundant}
 use Rattle.sched.specs.declared.Checked.{Checked}
 use Rattle.sched.specs.declared.Checked.the-variants.{Passed}
 use Rattle.joblist.specs.Bytes.{absentRelease, absentDeadline, absentVolume, hasRelease, hasDeadline, hasVolume, releaseAt, deadlineAt, volumeAt, entryLength}
 use Rattle.joblist.specs.Reading.{mapOf, releaseOf, deadlineOf, volumeOf, unknownBit, redundant, fieldsCheck, entryCheck}
-use Rattle.joblist.specs.Laws.Passing.{unless-passed}
 
 -- the entry that bytes start with is whole, and all of it is as it should be
 pub record GoodEntry (h j : ℕ) (bs : List ℕ) : Type 0 where

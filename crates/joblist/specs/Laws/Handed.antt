@@ -10,7 +10,7 @@ use Rattle.sched.specs.declared.Checked.{Checked}
 use Rattle.sched.specs.declared.Checked.the-variants.{Passed, Refused as Faulty}
 use Rattle.joblist.specs.Bytes.{headerLength, headerHorizon, headerWake, headerCount}
 use Rattle.joblist.specs.Reading.{releaseOf, deadlineOf, volumeOf, readCheck, column, listOf, Reading, afterCheck, reading, ReadPromise}
-use Rattle.joblist.specs.Writing.{jobsOf}
+use Rattle.sched.specs.Jobs.{jobsOf}
 use Rattle.joblist.specs.Laws.Column.{column-length}
 use Rattle.joblist.specs.Laws.Input.{read-passed}
 use Rattle.joblist.specs.Laws.Lists.{same-list}

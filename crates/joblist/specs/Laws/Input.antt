@@ -1,19 +1,20 @@
 -- The checks of the whole input, one by one, and the reading after them.
 use Prim.Native.Nat.{ℕ, _≤_}
-use mathlib.Core.Path.{_≡_, refl, sym, ap}
+use mathlib.Core.Path.{_≡_, sym, ap}
 use mathlib.Core.List.{List}
 use native.Mathlib.Omega.{arith}
 use borrow.Author.Tests.{ltb-false, eqb-false, le-ltb, ne-eqb}
 use lib.ListN.{length, drop}
 use lib.Dec.{ltb, eqb}
 use Rattle.sched.specs.Checks.{unless, andThen}
+use Rattle.sched.specs.Checks.Laws.{unless-passed, then-passed}
 use Rattle.sched.specs.declared.Refusal.{Refusal}
 use Rattle.sched.specs.declared.Refusal.the-variants.{Truncated, OutOfRange, TooShort}
 use Rattle.sched.specs.declared.Checked.{Checked}
 use Rattle.sched.specs.declared.Checked.the-variants.{Passed, Refused as Faulty}
 use Rattle.joblist.specs.Bytes.{headerLength, headerHorizon, headerCount}
-use Rattle.joblist.specs.Reading.{headerCheck, lentCheck, entriesCheck, readCheck, Reading, accepted, afterCheck, reading}
-use Rattle.joblist.specs.Laws.Passing.{unless-passed, then-passed, then-next}
+use Rattle.joblist.specs.Reading.{headerCheck, lentCheck, entriesCheck, readCheck, accepted, afterCheck, reading}
+use Rattle.joblist.specs.Laws.Passing.{then-next}
 
 pub record GoodHeader (bytes : List ℕ) : Type 0 where
   pub long : headerLength ≤ length bytes

@@ -1,22 +1,22 @@
 -- Entries and whole lists, written and read back, and read and written again.
-use Prim.Native.Nat.{ℕ, zero, suc, _+_, _-_, _≤_, _<_}
+use Prim.Native.Nat.{ℕ, zero, suc, _+_, _<_}
 use mathlib.Core.Path.{_≡_, refl, ap, sym, _∙_}
 use mathlib.Core.Bool.{Bool, not}
 use mathlib.Core.List.{List, [], _∷_, _++_, append-assoc}
 use native.Mathlib.Omega.{arith}
 use borrow.Author.Tests.{eqb-true, not-false}
-use lib.ListN.{length, getD, drop, length-append, length-drop}
+use lib.ListN.{length, getD, drop, length-drop}
 use lib.Seq.{drop-drop, getD-drop}
 use lib.Dec.{eqb}
-use Rattle.sched.specs.Checks.{GoodJob, unless, andThen, jobCheck}
-use Rattle.sched.specs.Checks.Laws.{job-good, job-passes}
+use Rattle.sched.specs.Checks.{GoodJob, jobCheck}
+use Rattle.sched.specs.Checks.Laws.{unless-passed, then-passed, job-good, job-passes}
 use Rattle.sched.specs.declared.Refusal.the-variants.{LeftOver}
 use Rattle.sched.specs.declared.Checked.the-variants.{Passed}
-use Rattle.joblist.specs.Bytes.{absentRelease, absentDeadline, absentVolume, hasRelease, hasDeadline, hasVolume, mapByte, width, releaseAt, deadlineAt, volumeAt, entryLength, stands, bytesIf, entryBytes, entriesBytes}
+use Rattle.joblist.specs.Bytes.{absentRelease, absentDeadline, absentVolume, hasRelease, hasDeadline, hasVolume, mapByte, width, deadlineAt, volumeAt, entryLength, stands, bytesIf, entryBytes, entriesBytes}
 use Rattle.joblist.specs.Reading.{mapOf, releaseOf, deadlineOf, volumeOf, behind, entryCheck, entriesCheck, column}
-use Rattle.joblist.specs.Laws.Passing.{unless-passed, then-passed, then-next}
+use Rattle.joblist.specs.Laws.Passing.{then-next}
 use Rattle.joblist.specs.Laws.Entry.{GoodEntry, entry-passed, entry-passes}
-use Rattle.joblist.specs.Laws.Fields.{AreBytes, layout, layout-read, value-back, field-fresh, bits-again, Again, field-again}
+use Rattle.joblist.specs.Laws.Fields.{AreBytes, layout, layout-read, value-back, field-fresh, bits-again, field-again}
 
 -- what reading the entry of a job finds, whatever follows it
 pub record EntryBack (h r d p : ℕ) (bs rest : List ℕ) : Type 0 where

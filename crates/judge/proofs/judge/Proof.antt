@@ -1,7 +1,7 @@
 -- `judge::judge` meets its contract: the list checks, then the table.
 use mathlib.Core.Path.{sym, _∙_}
+use Rattle.sched.specs.Jobs.{jobsOf}
 use Rattle.sched.specs.Checks.Laws.{passes}
-use Rattle.judge.specs.Verdict.{lent}
 use Rattle.judge.specs.Verdict.Laws.{list-refused, list-passed, tells, passes-sized}
 use borrow.Author.Needs.{needs}
 use Rattle.judge.proofs.judge.Statement.{statement}
@@ -14,7 +14,7 @@ enum-told : tie.Need-enum-told
 enum-told c = search needs
 
 judge-table-requires : tie.Need-judge-table-requires
-judge-table-requires c κs = let p = passes (lent (c .before .before .before .before .before .before .before .args .h) (c .before .before .before .before .before .before .before .args .q) (c .before .before .before .before .before .before .before .args .releases .now) (c .before .before .before .before .before .before .before .args .deadlines .now) (c .before .before .before .before .before .before .before .args .volumes .now)) .0 (sym (c .before .before .check-list .ensures) ∙ c .enum-told .given .1) in (passes-sized _ p, p .high)
+judge-table-requires c κs = let p = passes (jobsOf (c .before .before .before .before .before .before .before .args .h) (c .before .before .before .before .before .before .before .args .q) (c .before .before .before .before .before .before .before .args .releases .now) (c .before .before .before .before .before .before .before .args .deadlines .now) (c .before .before .before .before .before .before .before .args .volumes .now)) .0 (sym (c .before .before .check-list .ensures) ∙ c .enum-told .given .1) in (passes-sized _ p, p .high)
 
 enum-known-r : tie.Need-enum-known-r
 enum-known-r c = search needs

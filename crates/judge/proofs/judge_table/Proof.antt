@@ -3,7 +3,7 @@ use mathlib.Core.Path.{refl, sym, _∙_}
 use native.Mathlib.Omega.{arith}
 use lib.ListN.{length-take}
 use lib.Seq.{length-take-le}
-use Rattle.judge.specs.Verdict.{lent}
+use Rattle.sched.specs.Jobs.{jobsOf}
 use Rattle.judge.specs.Verdict.Laws.{short-refused, faulty-refused, faultless-accepted}
 use borrow.Author.Needs.{needs}
 use Rattle.judge.proofs.judge_table.Statement.{statement}
@@ -28,7 +28,7 @@ enum-known-r : tie.Need-enum-known-r
 enum-known-r c = search needs
 
 returns-2 : tie.Need-returns-2
-returns-2 c = faultless-accepted _ _ _ (c .before .before .before .before .before .if1 .left) (sym (c .before .before .before .check-table .ensures) ∙ c .before .enum-told .given .1) (c .cost-of .ensures (lent (c .before .before .before .before .before .before .before .before .before .before .args .h) (c .before .before .before .before .before .before .before .before .before .before .args .q) (c .before .before .before .before .before .before .before .before .before .before .args .releases .now) (c .before .before .before .before .before .before .before .before .before .before .args .deadlines .now) (c .before .before .before .before .before .before .before .before .before .before .args .volumes .now)) refl)
+returns-2 c = faultless-accepted _ _ _ (c .before .before .before .before .before .if1 .left) (sym (c .before .before .before .check-table .ensures) ∙ c .before .enum-told .given .1) (c .cost-of .ensures (jobsOf (c .before .before .before .before .before .before .before .before .before .before .args .h) (c .before .before .before .before .before .before .before .before .before .before .args .q) (c .before .before .before .before .before .before .before .before .before .before .args .releases .now) (c .before .before .before .before .before .before .before .before .before .before .args .deadlines .now) (c .before .before .before .before .before .before .before .before .before .before .args .volumes .now)) refl)
 
 returns-3 : tie.Need-returns-3
 returns-3 c = faulty-refused _ _ _ (c .before .before .before .before .before .if1 .left) (sym (c .before .before .before .check-table .ensures) ∙ c .before .r .given .1)

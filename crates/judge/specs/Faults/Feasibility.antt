@@ -12,13 +12,14 @@ use lib.Dec.{leb, ltb}
 use Rattle.sched.specs.Jobs.{Jobs, count, release, deadline, volume}
 use Rattle.sched.specs.Slots.{times}
 use Rattle.sched.specs.Checks.{Passes, andThen}
+use Rattle.sched.specs.Checks.Laws.{unless-passed, then-passed}
 use Rattle.sched.specs.Feasible.{Feasible}
 use Rattle.sched.specs.declared.Checked.{Checked}
 use Rattle.sched.specs.declared.Checked.the-variants.{Passed}
 use Rattle.sched.specs.declared.Refusal.the-variants.{TooRare}
 use Rattle.judge.specs.Times.{times-front, times-named, times-other, times-none}
 use Rattle.judge.specs.Faults.{spentIn, slotCheck, slotsFrom, rareFrom, tableCheck}
-use Rattle.judge.specs.Faults.Laws.{unless-passed, then-passed, GoodSlot, slot-good, good-passes}
+use Rattle.judge.specs.Faults.Laws.{GoodSlot, slot-good, good-passes}
 
 -- all slots, and all jobs, pass where each one does
 

@@ -7,9 +7,8 @@ use native.Mathlib.Omega.{arith}
 use borrow.Author.Tests.{le-leb, lt-leb, lt-ltb, le-ltb, eq-eqb, ne-eqb, leb-false, ltb-false, eqb-true, not-false}
 use lib.Dec.{leb, ltb, eqb}
 use Rattle.sched.specs.Bounded.Laws.{by-bool, true-not-false, or-false}
-use Rattle.sched.specs.Checks.{unless, andThen}
-use Rattle.sched.specs.declared.Refusal.{Refusal}
-use Rattle.sched.specs.declared.Checked.{Checked}
+use Rattle.sched.specs.Checks.{unless}
+use Rattle.sched.specs.Checks.Laws.{unless-passed}
 use Rattle.sched.specs.declared.Checked.the-variants.{Passed, Refused}
 use Rattle.sched.specs.declared.Refusal.the-variants.{BadByte, TooOften, OutOfSpan}
 use Rattle.judge.specs.Faults.{slotFault}
@@ -37,19 +36,6 @@ module _ (n r d t byte : ℕ) (spent : Bool) where
 
   pub own-passes : byte < n → spent ≡ false → r ≤ t → t < d → Passed ≡ slotFault n r d t byte spent
   own-passes l s e f = simp (lt-leb n byte l, lt-ltb byte n l, s, le-ltb t r e, lt-leb d t f)
-
--- checks that pass
-
-refused-not-passed : {A : Type 0} (r : Refusal) → _≡_ {A = Checked} (Refused r) Passed → A
-refused-not-passed r e = let z : _≡_ {A = ℕ} 0 1 = cc in absurd (omega arith)
-
-pub unless-passed : (b : Bool) (r : Refusal) (c : Checked) → unless b r c ≡ Passed → (b ≡ false) × (c ≡ Passed)
-unless-passed true r c e = refused-not-passed r e
-unless-passed false r c e = (refl, e)
-
-pub then-passed : (a c : Checked) → andThen a c ≡ Passed → (a ≡ Passed) × (c ≡ Passed)
-then-passed Passed c e = (refl, e)
-then-passed (Refused r) c e = refused-not-passed r e
 
 and-false : (a b : Bool) → a && b ≡ false → a ≡ true → b ≡ false
 and-false true b e t = e

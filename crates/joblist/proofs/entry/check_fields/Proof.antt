@@ -1,12 +1,10 @@
 -- `entry::check_fields` meets its contract: the tests are those of `fieldsCheck`, in its order.
 use borrow.Author.Needs.{needs}
-use mathlib.Core.Path.{_≡_, ap, _∙_, sym}
+use mathlib.Core.Path.{refl, ap}
 use mathlib.Core.Bool.{true, false}
 use native.Mathlib.Omega.{arith}
-use lib.ListN.{drop}
-use Rattle.joblist.specs.Bytes.{absentRelease, absentDeadline, absentVolume, hasRelease, hasDeadline, hasVolume, releaseAt, deadlineAt, volumeAt}
-use Rattle.joblist.specs.Reading.{mapOf, redundant, fieldsCheck}
-use Rattle.joblist.proofs.Fields.{deadline-at-small, volume-at-small}
+use Rattle.joblist.specs.Bytes.{absentRelease, absentDeadline, absentVolume, hasRelease, hasDeadline, hasVolume, releaseAt, deadlineAt, volumeAt, entryLength}
+use Rattle.joblist.proofs.Fields.{deadline-at-small, volume-at-small, tested, release-refused, deadline-refused, volume-refused, job-decides}
 use Rattle.joblist.proofs.entry.check_fields.Statement.{statement}
 use Rattle.joblist.proofs.entry.check_fields.Tie as tie
 
@@ -23,8 +21,7 @@ add-t10 : tie.Need-add-t10
 add-t10 c = search needs
 
 returns : tie.Need-returns
-unfolding fieldsCheck
-returns c = let b = c .before .before .before .before .before .args .bytes .now in let h = c .before .before .before .before .before .args .h in let e1 : redundant (hasRelease (mapOf b)) absentRelease (drop releaseAt b) ≡ true = cc in simp e1
+returns c = let a = c .before .before .before .before .before .args in let b = a .bytes .now in let h = a .h in release-refused h (a .job) (a .at) b (tested hasRelease (λ m. releaseAt) absentRelease b (c .before .before .before .byte .result) releaseAt (c .before .before .has-release .result) (c .before .is-redundant .result) true (c .before .before .before .byte .ensures) (c .before .before .has-release .ensures) refl (c .before .is-redundant .ensures) (c .if1 .taken))
 
 deadline-at-requires : tie.Need-deadline-at-requires
 deadline-at-requires c κs = search needs
@@ -36,11 +33,10 @@ is-redundant-requires-2 : tie.Need-is-redundant-requires-2
 is-redundant-requires-2 c κs = omega (arith, c .before .deadline-at .ensures, deadline-at-small (c .before .before .before .before .before .byte .result))
 
 add-t13 : tie.Need-add-t13
-add-t13 c = let b = c .before .before .before .before .before .before .before .before .before .args .bytes .now in let e : deadlineAt (mapOf b) ≡ c .before .before .before .deadline-at .result = cc in omega arith
+add-t13 c = omega (arith, c .before .before .before .deadline-at .ensures, deadline-at-small (c .before .before .before .before .before .before .before .byte .result), c .before .before .before .before .before .before .before .before .before .pre, ap entryLength (c .before .before .before .before .before .before .before .byte .ensures))
 
 returns-2 : tie.Need-returns-2
-unfolding fieldsCheck
-returns-2 c = let b = c .before .before .before .before .before .before .before .before .before .args .bytes .now in let h = c .before .before .before .before .before .before .before .before .before .args .h in let e1 : redundant (hasRelease (mapOf b)) absentRelease (drop releaseAt b) ≡ false = cc in let e2 : redundant (hasDeadline (mapOf b)) (absentDeadline h) (drop (deadlineAt (mapOf b)) b) ≡ true = cc in simp (e1, e2, c .before .before .before .deadline-at .ensures, c .before .before .before .before .before .before .before .byte .ensures)
+returns-2 c = let a = c .before .before .before .before .before .before .before .before .before .args in let b = a .bytes .now in let h = a .h in deadline-refused h (a .job) (a .at) b (c .before .before .before .before .before .before .before .byte .result) (c .before .before .before .deadline-at .result) (c .before .before .before .before .before .before .before .byte .ensures) (c .before .before .before .deadline-at .ensures) (tested hasRelease (λ m. releaseAt) absentRelease b (c .before .before .before .before .before .before .before .byte .result) releaseAt (c .before .before .before .before .before .before .has-release .result) (c .before .before .before .before .before .is-redundant .result) false (c .before .before .before .before .before .before .before .byte .ensures) (c .before .before .before .before .before .before .has-release .ensures) refl (c .before .before .before .before .before .is-redundant .ensures) (c .before .before .before .before .if1 .left)) (tested hasDeadline deadlineAt (absentDeadline h) b (c .before .before .before .before .before .before .before .byte .result) (c .before .before .before .deadline-at .result) (c .before .before .has-deadline .result) (c .before .is-redundant2 .result) true (c .before .before .before .before .before .before .before .byte .ensures) (c .before .before .has-deadline .ensures) (c .before .before .before .deadline-at .ensures) (c .before .is-redundant2 .ensures) (c .if2 .taken))
 
 volume-at-requires : tie.Need-volume-at-requires
 volume-at-requires c κs = search needs
@@ -52,11 +48,10 @@ is-redundant-requires-3 : tie.Need-is-redundant-requires-3
 is-redundant-requires-3 c κs = omega (arith, c .before .volume-at .ensures, volume-at-small (c .before .before .before .before .before .before .before .before .before .byte .result))
 
 add-t16 : tie.Need-add-t16
-add-t16 c = let b = c .before .before .before .before .before .before .before .before .before .before .before .before .before .args .bytes .now in let e : volumeAt (mapOf b) ≡ c .before .before .before .volume-at .result = cc in omega arith
+add-t16 c = omega (arith, c .before .before .before .volume-at .ensures, c .before .before .before .before .before .before .before .before .before .before .before .before .before .pre, ap entryLength (c .before .before .before .before .before .before .before .before .before .before .before .byte .ensures))
 
 returns-3 : tie.Need-returns-3
-unfolding fieldsCheck
-returns-3 c = let b = c .before .before .before .before .before .before .before .before .before .before .before .before .before .args .bytes .now in let h = c .before .before .before .before .before .before .before .before .before .before .before .before .before .args .h in let e1 : redundant (hasRelease (mapOf b)) absentRelease (drop releaseAt b) ≡ false = cc in let e2 : redundant (hasDeadline (mapOf b)) (absentDeadline h) (drop (deadlineAt (mapOf b)) b) ≡ false = cc in let e3 : redundant (hasVolume (mapOf b)) absentVolume (drop (volumeAt (mapOf b)) b) ≡ true = cc in simp (e1, e2, e3, c .before .before .before .volume-at .ensures, c .before .before .before .before .before .before .before .before .before .before .before .byte .ensures)
+returns-3 c = let a = c .before .before .before .before .before .before .before .before .before .before .before .before .before .args in let b = a .bytes .now in let h = a .h in volume-refused h (a .job) (a .at) b (c .before .before .before .before .before .before .before .before .before .before .before .byte .result) (c .before .before .before .volume-at .result) (c .before .before .before .before .before .before .before .before .before .before .before .byte .ensures) (c .before .before .before .volume-at .ensures) (tested hasRelease (λ m. releaseAt) absentRelease b (c .before .before .before .before .before .before .before .before .before .before .before .byte .result) releaseAt (c .before .before .before .before .before .before .before .before .before .before .has-release .result) (c .before .before .before .before .before .before .before .before .before .is-redundant .result) false (c .before .before .before .before .before .before .before .before .before .before .before .byte .ensures) (c .before .before .before .before .before .before .before .before .before .before .has-release .ensures) refl (c .before .before .before .before .before .before .before .before .before .is-redundant .ensures) (c .before .before .before .before .before .before .before .before .if1 .left)) (tested hasDeadline deadlineAt (absentDeadline h) b (c .before .before .before .before .before .before .before .before .before .before .before .byte .result) (c .before .before .before .before .before .before .before .deadline-at .result) (c .before .before .before .before .before .before .has-deadline .result) (c .before .before .before .before .before .is-redundant2 .result) false (c .before .before .before .before .before .before .before .before .before .before .before .byte .ensures) (c .before .before .before .before .before .before .has-deadline .ensures) (c .before .before .before .before .before .before .before .deadline-at .ensures) (c .before .before .before .before .before .is-redundant2 .ensures) (c .before .before .before .before .if2 .left)) (tested hasVolume volumeAt absentVolume b (c .before .before .before .before .before .before .before .before .before .before .before .byte .result) (c .before .before .before .volume-at .result) (c .before .before .has-volume .result) (c .before .is-redundant3 .result) true (c .before .before .before .before .before .before .before .before .before .before .before .byte .ensures) (c .before .before .has-volume .ensures) (c .before .before .before .volume-at .ensures) (c .before .is-redundant3 .ensures) (c .if3 .taken))
 
 release-requires : tie.Need-release-requires
 release-requires c κs = search needs
@@ -71,8 +66,7 @@ check-job-requires : tie.Need-check-job-requires
 check-job-requires c κs = search needs
 
 returns-4 : tie.Need-returns-4
-unfolding fieldsCheck
-returns-4 c = let b = c .before .before .before .before .before .before .before .before .before .before .before .before .before .before .before .before .before .args .bytes .now in let h = c .before .before .before .before .before .before .before .before .before .before .before .before .before .before .before .before .before .args .h in let e1 : redundant (hasRelease (mapOf b)) absentRelease (drop releaseAt b) ≡ false = cc in let e2 : redundant (hasDeadline (mapOf b)) (absentDeadline h) (drop (deadlineAt (mapOf b)) b) ≡ false = cc in let e3 : redundant (hasVolume (mapOf b)) absentVolume (drop (volumeAt (mapOf b)) b) ≡ false = cc in simp (e1, e2, e3, c .check-job .ensures, c .before .volume .ensures, c .before .before .deadline .ensures, c .before .before .before .release .ensures)
+returns-4 c = let a = c .before .before .before .before .before .before .before .before .before .before .before .before .before .before .before .before .before .args in let b = a .bytes .now in let h = a .h in job-decides h (a .job) (a .at) b (c .before .before .before .release .result) (c .before .before .deadline .result) (c .before .volume .result) (c .check-job .result) (c .before .before .before .release .ensures) (c .before .before .deadline .ensures) (c .before .volume .ensures) (tested hasRelease (λ m. releaseAt) absentRelease b (c .before .before .before .before .before .before .before .before .before .before .before .before .before .before .before .byte .result) releaseAt (c .before .before .before .before .before .before .before .before .before .before .before .before .before .before .has-release .result) (c .before .before .before .before .before .before .before .before .before .before .before .before .before .is-redundant .result) false (c .before .before .before .before .before .before .before .before .before .before .before .before .before .before .before .byte .ensures) (c .before .before .before .before .before .before .before .before .before .before .before .before .before .before .has-release .ensures) refl (c .before .before .before .before .before .before .before .before .before .before .before .before .before .is-redundant .ensures) (c .before .before .before .before .before .before .before .before .before .before .before .before .if1 .left)) (tested hasDeadline deadlineAt (absentDeadline h) b (c .before .before .before .before .before .before .before .before .before .before .before .before .before .before .before .byte .result) (c .before .before .before .before .before .before .before .before .before .before .before .deadline-at .result) (c .before .before .before .before .before .before .before .before .before .before .has-deadline .result) (c .before .before .before .before .before .before .before .before .before .is-redundant2 .result) false (c .before .before .before .before .before .before .before .before .before .before .before .before .before .before .before .byte .ensures) (c .before .before .before .before .before .before .before .before .before .before .has-deadline .ensures) (c .before .before .before .before .before .before .before .before .before .before .before .deadline-at .ensures) (c .before .before .before .before .before .before .before .before .before .is-redundant2 .ensures) (c .before .before .before .before .before .before .before .before .if2 .left)) (tested hasVolume volumeAt absentVolume b (c .before .before .before .before .before .before .before .before .before .before .before .before .before .before .before .byte .result) (c .before .before .before .before .before .before .before .volume-at .result) (c .before .before .before .before .before .before .has-volume .result) (c .before .before .before .before .before .is-redundant3 .result) false (c .before .before .before .before .before .before .before .before .before .before .before .before .before .before .before .byte .ensures) (c .before .before .before .before .before .before .has-volume .ensures) (c .before .before .before .before .before .before .before .volume-at .ensures) (c .before .before .before .before .before .is-redundant3 .ensures) (c .before .before .before .before .if3 .left)) (c .check-job .ensures)
 
 pub check-fields-spec : {M : Type 1} → statement M
 check-fields-spec =

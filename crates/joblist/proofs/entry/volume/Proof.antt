@@ -1,7 +1,9 @@
 -- `entry::volume` meets its contract.
-use Rattle.joblist.proofs.Fields.{volume-at-small}
+use Rattle.joblist.proofs.Fields.{volume-at-small, at-field}
 use native.Mathlib.Omega.{arith}
 use borrow.Author.Needs.{needs}
+use Rattle.joblist.specs.Reading.{valueIf}
+use Rattle.joblist.specs.Bytes.{absentVolume, hasVolume, volumeAt}
 use Rattle.joblist.proofs.entry.volume.Statement.{statement}
 use Rattle.joblist.proofs.entry.volume.Tie as tie
 
@@ -18,7 +20,7 @@ value-requires : tie.Need-value-requires
 value-requires c κs = omega (arith, c .volume-at .ensures, volume-at-small (c .before .before .byte .result))
 
 returns : tie.Need-returns
-returns c = cc
+returns c = let a = c .before .before .before .before .before .args in at-field (λ t l. valueIf t absentVolume l) hasVolume volumeAt (a .bytes .now) (c .before .before .before .byte .result) (c .before .volume-at .result) (c .before .before .has-volume .result) (c .value .result) (c .before .before .before .byte .ensures) (c .before .before .has-volume .ensures) (c .before .volume-at .ensures) (c .value .ensures)
 
 pub volume-spec : {M : Type 1} → statement M
 volume-spec =

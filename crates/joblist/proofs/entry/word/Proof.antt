@@ -1,6 +1,5 @@
 -- `entry::word` meets its contract: the two bytes at an offset are the first two of what is left there.
 use Rattle.joblist.proofs.Fields.{word-at}
-use mathlib.Core.Path.{_∙_}
 use borrow.Author.Needs.{needs}
 use Rattle.joblist.proofs.entry.word.Statement.{statement}
 use Rattle.joblist.proofs.entry.word.Tie as tie
@@ -27,7 +26,7 @@ add-result : tie.Need-add-result
 add-result c = search needs
 
 returns : tie.Need-returns
-returns c = cc (word-at (c .before .before .before .args .bytes .now) (c .before .before .before .args .at))
+returns c = word-at (c .before .before .before .args .bytes .now) (c .before .before .before .args .at) (c .before .byte .result) (c .byte2 .result) (c .before .byte .ensures) (c .byte2 .ensures)
 
 pub word-spec : {M : Type 1} → statement M
 word-spec =

@@ -1,13 +1,10 @@
 -- `reader::check` meets its contract: the header, the lent lists and the entries are checked in the order of `readCheck`.
 use borrow.Author.Needs.{needs}
-use mathlib.Core.Path.{_≡_, sym, _∙_}
-use lib.ListN.{length, drop}
-use Rattle.sched.specs.declared.Checked.the-variants.{Passed, Refused}
-use Rattle.sched.specs.Checks.{andThen}
-use Rattle.joblist.specs.Bytes.{headerLength, headerHorizon, headerCount}
-use Rattle.joblist.specs.Reading.{headerCheck, lentCheck, entriesCheck}
-use Rattle.joblist.specs.Laws.Passing.{then-next, then-stop}
+use Rattle.sched.specs.declared.Checked.the-variants.{Passed}
+use Rattle.joblist.specs.Reading.{headerCheck, lentCheck}
+use Rattle.joblist.specs.Laws.Passing.{then-stop, told}
 use Rattle.joblist.specs.Laws.Input.{header-passed}
+use Rattle.joblist.proofs.Promises.{entries-decide, lent-refused}
 use Rattle.joblist.proofs.reader.check.Statement.{statement}
 use Rattle.joblist.proofs.reader.check.Tie as tie
 
@@ -27,7 +24,7 @@ enum-told-2 : tie.Need-enum-told-2
 enum-told-2 c = search needs
 
 check-entries-requires : tie.Need-check-entries-requires
-check-entries-requires c κs = let a = c .before .before .before .before .before .before .before .before .args in let b = a .bytes .now in let e1 : headerCheck b ≡ Passed = cc in header-passed b e1 .long
+check-entries-requires c κs = let a = c .before .before .before .before .before .before .before .before .args in let b = a .bytes .now in header-passed b (told (c .before .before .before .before .before .before .check-header .result) (headerCheck b) Passed (c .before .before .before .before .before .before .check-header .ensures) (c .before .before .before .before .enum-told .given .1)) .long
 
 enum-known-r : tie.Need-enum-known-r
 enum-known-r c = search needs
@@ -36,13 +33,13 @@ enum-known-r-2 : tie.Need-enum-known-r-2
 enum-known-r-2 c = search needs
 
 returns : tie.Need-returns
-returns c = let a = c .before .before .before .before .before .before .before .before .before .args in let b = a .bytes .now in let e1 : headerCheck b ≡ Passed = cc in let e2 : lentCheck (headerCount b) (a .releases) (a .deadlines) (a .volumes) ≡ Passed = cc in let e3 : c .check-entries .result ≡ (entriesCheck (headerCount b) (headerHorizon b) (length b) 0 headerLength (drop headerLength b)) = cc in then-next (headerCheck b) _ _ e1 (then-next (lentCheck (headerCount b) (a .releases) (a .deadlines) (a .volumes)) (entriesCheck (headerCount b) (headerHorizon b) (length b) 0 headerLength (drop headerLength b)) _ e2 e3)
+returns c = let a = c .before .before .before .before .before .before .before .before .before .args in let b = a .bytes .now in entries-decide b (a .releases) (a .deadlines) (a .volumes) (c .before .before .before .before .header .result) (c .before .before .before .before .header .ensures) (c .check-entries .result) (told (c .before .before .before .before .before .before .before .check-header .result) (headerCheck b) Passed (c .before .before .before .before .before .before .before .check-header .ensures) (c .before .before .before .before .before .enum-told .given .1)) (told (c .before .before .before .check-lent .result) (lentCheck (c .before .before .before .before .header .result .count) (a .releases) (a .deadlines) (a .volumes)) Passed (c .before .before .before .check-lent .ensures) (c .before .enum-told2 .given .1)) (c .check-entries .ensures)
 
 returns-2 : tie.Need-returns-2
-returns-2 c = let a = c .before .before .before .before .before .before .before .before .before .args in let b = a .bytes .now in let e1 : headerCheck b ≡ Passed = cc in let e2 : lentCheck (headerCount b) (a .releases) (a .deadlines) (a .volumes) ≡ Refused (c .before .r .given .0 .0) = cc in then-next (headerCheck b) _ _ e1 (then-stop (lentCheck (headerCount b) (a .releases) (a .deadlines) (a .volumes)) (entriesCheck (headerCount b) (headerHorizon b) (length b) 0 headerLength (drop headerLength b)) _ e2)
+returns-2 c = let a = c .before .before .before .before .before .before .before .before .before .args in let b = a .bytes .now in lent-refused b (a .releases) (a .deadlines) (a .volumes) (c .before .before .before .before .header .result) (c .before .before .before .before .header .ensures) _ (told (c .before .before .before .before .before .before .before .check-header .result) (headerCheck b) Passed (c .before .before .before .before .before .before .before .check-header .ensures) (c .before .before .before .before .before .enum-told .given .1)) (told (c .before .before .before .check-lent .result) (lentCheck (c .before .before .before .before .header .result .count) (a .releases) (a .deadlines) (a .volumes)) _ (c .before .before .before .check-lent .ensures) (c .before .r .given .1))
 
 returns-3 : tie.Need-returns-3
-returns-3 c = let a = c .before .before .before .before .before .args in let b = a .bytes .now in then-stop (headerCheck b) _ _ (sym (c .before .before .before .check-header .ensures) ∙ c .before .r2 .given .1)
+returns-3 c = let a = c .before .before .before .before .before .args in let b = a .bytes .now in then-stop (headerCheck b) _ _ (told (c .before .before .before .check-header .result) (headerCheck b) _ (c .before .before .before .check-header .ensures) (c .before .r2 .given .1))
 
 pub check-spec : {M : Type 1} → statement M
 check-spec =

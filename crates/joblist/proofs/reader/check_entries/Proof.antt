@@ -1,14 +1,16 @@
 -- `reader::check_entries` meets its contract. The invariant: what is left of the checks gives what all of them give.
 use borrow.Author.Needs.{needs}
 use Prim.Native.Nat.{_≤_, _-_}
-use mathlib.Core.Path.{_≡_, refl, sym, _∙_}
+use mathlib.Core.Path.{_≡_}
 use native.Mathlib.Omega.{arith}
 use native.Mathlib.Nat.{sub-zero}
 use lib.ListN.{length, take, drop}
 use Rattle.sched.specs.declared.Checked.the-variants.{Passed}
-use Rattle.joblist.specs.Bytes.{headerLength, entryLength}
-use Rattle.joblist.specs.Reading.{mapOf, entryCheck, entriesCheck}
+use Rattle.joblist.specs.Bytes.{headerLength}
+use Rattle.joblist.specs.Reading.{entryCheck, entriesCheck}
 use Rattle.joblist.proofs.Walk.{part-rest, part-length, entries-next, entries-stop, entries-left-over, entries-end, within}
+use Rattle.joblist.specs.Laws.Passing.{told}
+use Rattle.joblist.proofs.Fields.{sized}
 use Rattle.joblist.proofs.reader.check_entries.Statement.{statement}
 use Rattle.joblist.proofs.reader.check_entries.Tie as tie
 
@@ -32,7 +34,7 @@ part-rest-end : tie.Need-part-rest-end Inv-loop μ-loop
 part-rest-end c = search needs
 
 check-requires : tie.Need-check-requires Inv-loop μ-loop
-check-requires c κs = let a = c .before .before .before .before .args in let b = a .bytes .now in let at = c .before .before .loop .at in let job = c .before .before .loop .job in part-length at b (c .before .before .loop .inv .0)
+check-requires c κs = let l = c .before .before .loop in part-length (l .at) (c .before .before .before .before .args .bytes .now) (l .inv .0)
 
 enum-told : tie.Need-enum-told Inv-loop μ-loop
 enum-told c = search needs
@@ -44,7 +46,7 @@ size-requires : tie.Need-size-requires Inv-loop μ-loop
 size-requires c κs = search needs
 
 add-at : tie.Need-add-at Inv-loop μ-loop
-add-at c = let a = c .before .before .before .before .before .before .before .before .before .args in let b = a .bytes .now in let at = c .before .before .before .before .before .before .before .loop .at in let job = c .before .before .before .before .before .before .before .loop .job in let s : c .size .result ≡ entryLength (mapOf (take (length b - at) (drop at b))) = cc in let p : entryCheck (a .h) (length b) job at (take (length b - at) (drop at b)) ≡ Passed = cc in let w = within (a .h) (length b) b job at (c .size .result) (take (length b - at) (drop at b)) (c .before .before .before .before .before .before .before .loop .inv .0) (part-rest at b) s p in omega (arith, w)
+add-at c = let a = c .before .before .before .before .before .before .before .before .before .args in let b = a .bytes .now in let l = c .before .before .before .before .before .before .before .loop in let rest = take (length b - l .at) (drop (l .at) b) in let s = sized rest (c .before .byte .result) (c .size .result) (c .before .byte .ensures) (c .size .ensures) in let p = told (c .before .before .before .before .check .result) (entryCheck (a .h) (length b) (l .job) (l .at) rest) Passed (c .before .before .before .before .check .ensures) (c .before .before .enum-told .given .1) in let w = within (a .h) (length b) b (l .job) (l .at) (c .size .result) rest (l .inv .0) (part-rest (l .at) b) s p in omega (arith, w)
 
 add-job : tie.Need-add-job Inv-loop μ-loop
 add-job c = search needs
@@ -53,19 +55,19 @@ loop-less : tie.Need-loop-less Inv-loop μ-loop
 loop-less c = search needs
 
 loop-again : tie.Need-loop-again Inv-loop μ-loop
-loop-again c = let a = c .before .before .before .before .before .before .before .before .before .args in let b = a .bytes .now in let at = c .before .before .before .before .before .before .before .loop .at in let job = c .before .before .before .before .before .before .before .loop .job in let s : c .size .result ≡ entryLength (mapOf (take (length b - at) (drop at b))) = cc in let p : entryCheck (a .h) (length b) job at (take (length b - at) (drop at b)) ≡ Passed = cc in let w = within (a .h) (length b) b job at (c .size .result) (take (length b - at) (drop at b)) (c .before .before .before .before .before .before .before .loop .inv .0) (part-rest at b) s p in (w, search needs, entries-next (a .h) (length b) b _ (a .count) job at (c .size .result) (take (length b - at) (drop at b)) (c .before .before .before .before .before .before .loop-test .taken) (part-rest at b) s p (c .before .before .before .before .before .before .before .loop .inv .2))
+loop-again c = let a = c .before .before .before .before .before .before .before .before .before .args in let b = a .bytes .now in let l = c .before .before .before .before .before .before .before .loop in let rest = take (length b - l .at) (drop (l .at) b) in let s = sized rest (c .before .byte .result) (c .size .result) (c .before .byte .ensures) (c .size .ensures) in let p = told (c .before .before .before .before .check .result) (entryCheck (a .h) (length b) (l .job) (l .at) rest) Passed (c .before .before .before .before .check .ensures) (c .before .before .enum-told .given .1) in let w = within (a .h) (length b) b (l .job) (l .at) (c .size .result) rest (l .inv .0) (part-rest (l .at) b) s p in (w, search needs, entries-next (a .h) (length b) b _ (a .count) (l .job) (l .at) (c .size .result) rest (c .before .before .before .before .before .before .loop-test .taken) (part-rest (l .at) b) s p (l .inv .2))
 
 enum-known-r : tie.Need-enum-known-r Inv-loop μ-loop
 enum-known-r c = search needs
 
 returns : tie.Need-returns Inv-loop μ-loop
-returns c = let a = c .before .before .before .before .before .before .before .before .args in let b = a .bytes .now in let at = c .before .before .before .before .before .before .loop .at in let job = c .before .before .before .before .before .before .loop .job in entries-stop (a .h) (length b) b _ (a .count) job at (take (length b - at) (drop at b)) _ (c .before .before .before .before .before .loop-test .taken) (part-rest at b) (sym (c .before .before .before .check .ensures) ∙ c .before .r .given .1) (c .before .before .before .before .before .before .loop .inv .2)
+returns c = let a = c .before .before .before .before .before .before .before .before .args in let b = a .bytes .now in let l = c .before .before .before .before .before .before .loop in let rest = take (length b - l .at) (drop (l .at) b) in entries-stop (a .h) (length b) b _ (a .count) (l .job) (l .at) rest _ (c .before .before .before .before .before .loop-test .taken) (part-rest (l .at) b) (told (c .before .before .before .check .result) (entryCheck (a .h) (length b) (l .job) (l .at) rest) _ (c .before .before .before .check .ensures) (c .before .r .given .1)) (l .inv .2)
 
 returns-2 : tie.Need-returns-2 Inv-loop μ-loop
-returns-2 c = let a = c .before .before .before .before .args in let b = a .bytes .now in let at = c .before .before .loop .at in let job = c .before .before .loop .job in entries-left-over (a .h) (length b) b _ (a .count) job at (c .before .loop-test .left) (c .if1 .taken) (c .before .before .loop .inv .2)
+returns-2 c = let a = c .before .before .before .before .args in let b = a .bytes .now in let l = c .before .before .loop in entries-left-over (a .h) (length b) b _ (a .count) (l .job) (l .at) (c .before .loop-test .left) (c .if1 .taken) (l .inv .2)
 
 returns-3 : tie.Need-returns-3 Inv-loop μ-loop
-returns-3 c = let a = c .before .before .before .before .args in let b = a .bytes .now in let at = c .before .before .loop .at in let job = c .before .before .loop .job in entries-end (a .h) (length b) b _ (a .count) job at (c .before .loop-test .left) (c .if1 .left) (c .before .before .loop .inv .2)
+returns-3 c = let a = c .before .before .before .before .args in let b = a .bytes .now in let l = c .before .before .loop in entries-end (a .h) (length b) b _ (a .count) (l .job) (l .at) (c .before .loop-test .left) (c .if1 .left) (l .inv .2)
 
 pub check-entries-spec : {M : Type 1} → statement M
 check-entries-spec =

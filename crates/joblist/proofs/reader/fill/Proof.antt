@@ -1,14 +1,14 @@
 -- `reader::fill` meets its contract. The invariant: what is left to store gives, in each list, what all of it gives.
 use borrow.Author.Needs.{needs}
 use Prim.Native.Nat.{_≤_, _-_}
-use mathlib.Core.Path.{_≡_, refl, sym, _∙_}
+use mathlib.Core.Path.{_≡_, refl}
 use native.Mathlib.Omega.{arith}
 use native.Mathlib.Nat.{sub-zero}
 use lib.ListN.{length, take, drop}
 use Rattle.sched.specs.declared.Checked.the-variants.{Passed}
-use Rattle.joblist.specs.Bytes.{headerLength, entryLength}
-use Rattle.joblist.specs.Reading.{mapOf, releaseOf, deadlineOf, volumeOf, entriesCheck}
+use Rattle.joblist.specs.Reading.{releaseOf, deadlineOf, volumeOf, entriesCheck}
 use Rattle.joblist.proofs.Walk.{part-rest, passed-here, passed-next, within, Column, column-next, column-end}
+use Rattle.joblist.proofs.Fields.{sized}
 use Rattle.joblist.proofs.reader.fill.Statement.{statement}
 use Rattle.joblist.proofs.reader.fill.Tie as tie
 
@@ -68,7 +68,7 @@ size-requires : tie.Need-size-requires Inv-loop μ-loop
 size-requires c κs = search needs
 
 add-at : tie.Need-add-at Inv-loop μ-loop
-add-at c = let a = c .before .before .before .before .before .before .before .before .before .before .before .before .args in let b = a .bytes .now in let l = c .before .before .before .before .before .before .before .loop in let at = l .at in let job = l .job in let t = c .before .before .before .before .before .before .loop-test .taken in let s : c .size .result ≡ entryLength (mapOf (take (length b - at) (drop at b))) = cc in let w = within (a .h) (length b) b job at (c .size .result) (take (length b - at) (drop at b)) (l .inv .0) (part-rest at b) s (passed-here (a .h) (length b) b (a .count) job at (take (length b - at) (drop at b)) t (part-rest at b) (l .inv .2)) in omega (arith, w)
+add-at c = let a = c .before .before .before .before .before .before .before .before .before .before .before .before .args in let b = a .bytes .now in let l = c .before .before .before .before .before .before .before .loop in let at = l .at in let job = l .job in let t = c .before .before .before .before .before .before .loop-test .taken in let s = sized (take (length b - at) (drop at b)) (c .before .byte .result) (c .size .result) (c .before .byte .ensures) (c .size .ensures) in let w = within (a .h) (length b) b job at (c .size .result) (take (length b - at) (drop at b)) (l .inv .0) (part-rest at b) s (passed-here (a .h) (length b) b (a .count) job at (take (length b - at) (drop at b)) t (part-rest at b) (l .inv .2)) in omega (arith, w)
 
 add-job : tie.Need-add-job Inv-loop μ-loop
 add-job c = search needs
@@ -77,7 +77,7 @@ loop-less : tie.Need-loop-less Inv-loop μ-loop
 loop-less c = search needs
 
 loop-again : tie.Need-loop-again Inv-loop μ-loop
-loop-again c = let a = c .before .before .before .before .before .before .before .before .before .before .before .before .args in let b = a .bytes .now in let l = c .before .before .before .before .before .before .before .loop in let at = l .at in let job = l .job in let t = c .before .before .before .before .before .before .loop-test .taken in let s : c .size .result ≡ entryLength (mapOf (take (length b - at) (drop at b))) = cc in let w = within (a .h) (length b) b job at (c .size .result) (take (length b - at) (drop at b)) (l .inv .0) (part-rest at b) s (passed-here (a .h) (length b) b (a .count) job at (take (length b - at) (drop at b)) t (part-rest at b) (l .inv .2)) in (w, search needs, passed-next (a .h) (length b) b (a .count) job at (c .size .result) (take (length b - at) (drop at b)) t (part-rest at b) s (l .inv .2), column-next releaseOf b (a .releases .now) (l .releases) (a .count) job at (c .size .result) _ (take (length b - at) (drop at b)) t (part-rest at b) s (c .before .before .before .before .release .ensures) (l .inv .3), column-next (deadlineOf (a .h)) b (a .deadlines .now) (l .deadlines) (a .count) job at (c .size .result) _ (take (length b - at) (drop at b)) t (part-rest at b) s (c .before .before .before .deadline .ensures) (l .inv .4), column-next volumeOf b (a .volumes .now) (l .volumes) (a .count) job at (c .size .result) _ (take (length b - at) (drop at b)) t (part-rest at b) s (c .before .before .volume .ensures) (l .inv .5))
+loop-again c = let a = c .before .before .before .before .before .before .before .before .before .before .before .before .args in let b = a .bytes .now in let l = c .before .before .before .before .before .before .before .loop in let at = l .at in let job = l .job in let t = c .before .before .before .before .before .before .loop-test .taken in let s = sized (take (length b - at) (drop at b)) (c .before .byte .result) (c .size .result) (c .before .byte .ensures) (c .size .ensures) in let w = within (a .h) (length b) b job at (c .size .result) (take (length b - at) (drop at b)) (l .inv .0) (part-rest at b) s (passed-here (a .h) (length b) b (a .count) job at (take (length b - at) (drop at b)) t (part-rest at b) (l .inv .2)) in (w, search needs, passed-next (a .h) (length b) b (a .count) job at (c .size .result) (take (length b - at) (drop at b)) t (part-rest at b) s (l .inv .2), column-next releaseOf b (a .releases .now) (l .releases) (a .count) job at (c .size .result) _ (take (length b - at) (drop at b)) t (part-rest at b) s (c .before .before .before .before .release .ensures) (l .inv .3), column-next (deadlineOf (a .h)) b (a .deadlines .now) (l .deadlines) (a .count) job at (c .size .result) _ (take (length b - at) (drop at b)) t (part-rest at b) s (c .before .before .before .deadline .ensures) (l .inv .4), column-next volumeOf b (a .volumes .now) (l .volumes) (a .count) job at (c .size .result) _ (take (length b - at) (drop at b)) t (part-rest at b) s (c .before .before .volume .ensures) (l .inv .5))
 
 same-length : tie.Need-same-length Inv-loop μ-loop
 same-length c = c .before .loop .inv .3 .same

@@ -1,6 +1,6 @@
 -- `writer::put` meets its contract: the header, and the entries behind it.
 use borrow.Author.Needs.{needs}
-use Rattle.joblist.specs.Writing.{jobsOf}
+use Rattle.sched.specs.Jobs.{jobsOf}
 use Rattle.joblist.proofs.Spelling.{put-spelling}
 use Rattle.joblist.proofs.writer.put.Statement.{statement}
 use Rattle.joblist.proofs.writer.put.Tie as tie
