@@ -50,7 +50,7 @@ module _ (table : List ℕ) (from : ℕ) (b : Bool) (t : ℕ) (x : Bool) (g : Re
         starts = g .starts;
         within = g .within;
         inside = g .inside;
-        turns = λ m. slot-awake table t l ∙ sym e ∙ differs x b d
+        turns = λ m. slot-awake table t l ∙ sym e ∙ differs x b d;
       }
 
   pub reached-on : not (Bool·beq x b) ≡ false → Reached table from b (t + 1)
@@ -62,8 +62,8 @@ module _ (table : List ℕ) (from : ℕ) (b : Bool) (t : ℕ) (x : Bool) (g : Re
             by-bool (ltb i t)
             (λ y. g .inside i s (ltb-true i t y))
             (λ n.
-                let same : i ≡ t = omega (arith, ltb-false i t n) in
-                ap (awake (awakeOf table)) same ∙ slot-awake table t l ∙ sym e ∙ agrees x b a)
+            let same : i ≡ t = omega (arith, ltb-false i t n) in
+            ap (awake (awakeOf table)) same ∙ slot-awake table t l ∙ sym e ∙ agrees x b a);
       }
 
 -- a run begins at slot t, or the table is at its end
@@ -80,8 +80,8 @@ pub run-moves : (table : List ℕ) (t r : ℕ) → RunFrom table t → t < lengt
 run-moves table t r g l e =
     by-bool (ltb t r) (ltb-true t r)
     (λ n.
-        let same : r ≡ t = omega (arith, ltb-false t r n, e .starts) in
-        absurd (true-not-false _ (g .begins l) (sym (ap (awake (awakeOf table)) same) ∙ e .turns (omega arith))))
+    let same : r ≡ t = omega (arith, ltb-false t r n, e .starts) in
+    absurd (true-not-false _ (g .begins l) (sym (ap (awake (awakeOf table)) same) ∙ e .turns (omega arith))))
 
 -- a table of 4,096 bytes is long enough for every horizon
 pub fits-buffer : (h lent table : ℕ) → h ≤ 4096 → 4096 ≡ lent → table ≡ lent → h ≤ table
