@@ -1,5 +1,5 @@
--- Demand 3 of the plan that 01 defines, and what `added` counts.
-use Prim.Native.Nat.{ℕ, suc, _-_, _≤_}
+-- Demand 3 of the plan that 01 defines, what `added` counts, and step 3 to its end.
+use Prim.Native.Nat.{ℕ, suc, _+_, _-_, _≤_}
 use mathlib.Core.Path.{_≡_, refl, sym, ap, subst, _∙_}
 use mathlib.Core.Bool.{Bool, true, false}
 use mathlib.Core.List.{List, _++_}
@@ -10,7 +10,8 @@ use lib.Seq.{take-at}
 use Rattle.sched.specs.Bounded.Laws.{true-not-false}
 use Rattle.sched.specs.Jobs.{Jobs, totalVolume}
 use Rattle.sched.specs.Checks.{Passes}
-use Rattle.sched.specs.Slots.{awakeOf}
+use Rattle.sched.specs.Slots.{awakeOf, times}
+use Rattle.sched.specs.Feasible.{Feasible}
 use Rattle.sched.specs.Energy.{energy}
 use Rattle.sched.specs.Overload.{overloaded, shownOverload}
 use Rattle.sched.specs.Skeleton.{leastSkeleton}
@@ -26,7 +27,12 @@ use Rattle.edf.specs.Overload.{Overfull}
 use Rattle.edf.specs.Overload.Laws.{shown-none, shown-some, overfull-overloaded}
 use Rattle.edf.specs.Overload.Counting.{feasible-no-overload}
 use Rattle.demands.specs.Rivals.{SaysOverloaded, NoSchedule, HandsOver, AgainstRivals}
-use Rattle.demands.specs.Steps.{added-is-shortfall, plan-feasible, plan-energy}
+use Rattle.edf.specs.Theorems.{unhelpful-stays}
+use Rattle.skeleton.specs.Theorems.{least-length}
+use Rattle.skeleton.specs.Waking.Cursor.{wokenFrom, triedFrom}
+use Rattle.skeleton.specs.Waking.Cursor.Laws.{woken-from}
+use Rattle.skeleton.specs.Waking.Cursor.Once.{tried-once}
+use Rattle.demands.specs.Steps.{extended-full, added-is-shortfall, plan-feasible, plan-energy}
 
 planned-not-overloaded : (f : PlanFigures) (i : Interval) → _≡_ {A = Outcome} (Planned f) (Overloaded i) → ⊥
 planned-not-overloaded f i e = let z : _≡_ {A = ℕ} 0 1 = cc in omega arith
@@ -83,3 +89,28 @@ added-counts J lent f p m e = by-shown (shownOverload J) refl
     by-shown none q =
         let same = planned-figures J lent f (sym (ap (λ (x : Plan). x .answer) (plan-starts J lent p m ∙ step-one-none J lent q)) ∙ e) in
         (same, same ∙ added-is-shortfall J p (shown-none J q))
+
+-- Step 3, from the least skeleton of a list without an overloaded interval
+
+-- it ends with all volume workable, and its table is feasible
+pub extension-ends : (J : Jobs) → Passes J → ((a b : ℕ) → overloaded J a b ≡ false) → (workable J (extended J) ≡ totalVolume J) × Feasible J (tableOf J (extended J))
+extension-ends J p n = (extended-full J p n, plan-feasible J p n)
+
+-- it wakes as many slots as the skeleton's workable volume is short of
+pub extension-count : (J : Jobs) → Passes J → ((a b : ℕ) → overloaded J a b ≡ false) → length (woken J (leastSkeleton J)) ≡ totalVolume J - workable J (leastSkeleton J)
+extension-count J p n = added-is-shortfall J p n
+
+-- a cursor that goes back one slot at most wakes the same slots in the same order
+pub extension-order : (J : Jobs) → Passes J → wokenFrom (J .horizon) J (leastSkeleton J) 0 ≡ woken J (leastSkeleton J)
+unfolding woken
+extension-order J p =
+    woken-from J (λ S x y n l m s t v. unhelpful-stays J S x y p n l s v m) (J .horizon) (leastSkeleton J) 0 (least-length J p) (omega arith)
+    (λ i l. absurd (omega arith))
+
+-- and it tries each slot at most once
+pub extension-tries : (J : Jobs) (i : ℕ) → Passes J → times i (triedFrom (J .horizon) J (leastSkeleton J) 0) ≤ 1
+extension-tries J i p = tried-once J (J .horizon) (leastSkeleton J) 0 i (least-length J p)
+
+-- The energy limit: the table of steps 2 to 5 costs at most any feasible table and the sum of volumes.
+pub energy-limit : (J : Jobs) (rival : List ℕ) → Passes J → ((a b : ℕ) → overloaded J a b ≡ false) → Feasible J rival → energy J (awakeOf (tableOf J (extended J))) ≤ energy J (awakeOf rival) + totalVolume J
+energy-limit J rival p n f = plan-energy J p n rival f

@@ -6,14 +6,16 @@ use mathlib.Core.Path.{_≡_, refl, sym, _∙_}
 use mathlib.Core.Bool.{Bool, true, false}
 use mathlib.Core.List.{List}
 use mathlib.Core.Logic.{_⊎_, _↔_}
+use mathlib.Core.Option.{some}
 use native.Mathlib.Omega.{arith}
 use lib.ListN.{length, replicate, length-replicate, getD-replicate}
 use Rattle.sched.specs.Bounded.Laws.{by-bool, true-not-false}
-use Rattle.sched.specs.Jobs.{Jobs, volume, totalVolume}
+use Rattle.sched.specs.Jobs.{Jobs, count, release, deadline, volume, totalVolume}
 use Rattle.sched.specs.Checks.{Passes}
 use Rattle.sched.specs.Slots.{awake, awakeOf, wakeSlot}
 use Rattle.sched.specs.Feasible.{Feasible}
-use Rattle.sched.specs.Overload.{overloaded}
+use Rattle.sched.specs.Overload.{overloaded, shownOverload}
+use Rattle.sched.specs.declared.Interval.{Interval}
 use Rattle.sched.specs.Skeleton.{isSkeleton}
 use Rattle.sched.specs.Workable.{Placement, Greatest, units, workable}
 use Rattle.sched.specs.Steps.{helps, wakes, tableOf}
@@ -27,6 +29,11 @@ use Rattle.edf.specs.Sets.{touching, skeleton-windows}
 use Rattle.edf.specs.Woken.{woken-worth, lacks-if-helps, helps-if-carried, helped-before}
 use Rattle.edf.specs.Room.{no-overload-fits}
 use Rattle.edf.specs.Overload.Counting.{feasible-no-overload}
+use Rattle.edf.specs.Overload.Laws.{shown-some}
+use Rattle.edf.specs.Overload.Ends.{shown-deadline, shown-release}
+use Rattle.edf.specs.Overload.Order.{InOrder}
+use Rattle.edf.specs.Overload.Search.{searchOverload}
+use Rattle.edf.specs.Overload.Search.Laws.{search-shown}
 
 -- The workable volume
 
@@ -120,3 +127,12 @@ no-overload-feasible J p free =
 -- There is a feasible table exactly where no interval is overloaded.
 pub feasible-iff-no-overload : (J : Jobs) → Passes J → ((table : List ℕ) × Feasible J table) ↔ ((a b : ℕ) → overloaded J a b ≡ false)
 feasible-iff-no-overload J p = ((λ f. feasible-no-overload J (f .0) (f .1)), no-overload-feasible J p)
+
+-- The interval that is shown begins with a job's release and ends with a job's deadline.
+pub shown-ends : (J : Jobs) (i : Interval) → Passes J → shownOverload J ≡ some i →
+    ((k : ℕ) × (k < count J) × (release J k ≡ i .a)) × ((k : ℕ) × (k < count J) × (deadline J k ≡ i .b))
+shown-ends J i p e = let s = shown-some J i e in (shown-release J p i s, shown-deadline J p i s)
+
+-- So a search over releases and deadlines finds it, with the jobs in any order by falling release.
+pub search-finds-shown : (J : Jobs) (order : List ℕ) → Passes J → InOrder (release J) (count J) order → searchOverload J order ≡ shownOverload J
+search-finds-shown J order p o = search-shown J p order o
