@@ -1,5 +1,7 @@
 // Job lists read and written: the list worked out in hex, each refusal at its first and its last place, the longest list, and the
 // list in hex with one byte changed. `stdout` was worked out apart from this program.
+ghost use Prim.Native.Nat.{_≤_};
+use joblist::ListHeader;
 use joblist::ListRead;
 use joblist::ListWritten;
 
@@ -12,22 +14,8 @@ const EXAMPLE: [u8; 16] = [10, 0, 3, 0, 3, 2, 3, 0, 5, 8, 0, 2, 0, 4, 5, 0];
 fn read_into(bytes: &[u8], releases: &mut [u16], deadlines: &mut [u16], volumes: &mut [u16]) {
     show::text(b"read");
     match joblist::read(bytes, releases, deadlines, volumes) {
-        ListRead::Read(list) => {
-            show::list(list, releases, deadlines, volumes);
-            write_back(
-                list.h,
-                list.q,
-                list.count,
-                bytes,
-                releases,
-                deadlines,
-                volumes,
-            );
-        }
-        ListRead::Refused(r) => {
-            show::refused(r);
-            show::all_kept(0, releases, deadlines, volumes);
-        }
+        ListRead::Read(list) => write_back(list, bytes, releases, deadlines, volumes),
+        ListRead::Refused(r) => show::not_read(r, releases, deadlines, volumes),
     }
     show::end();
 }
@@ -38,37 +26,49 @@ fn first(list: &[u16], n: usize) -> &[u16] {
 }
 
 fn write_back(
-    h: u16,
-    q: u16,
-    count: usize,
+    list: ListHeader,
     bytes: &[u8],
     releases: &[u16],
     deadlines: &[u16],
     volumes: &[u16],
 ) {
+    show::list(list, releases, deadlines, volumes);
+    write_same(
+        list.h,
+        list.q,
+        bytes,
+        first(releases, list.count),
+        first(deadlines, list.count),
+        first(volumes, list.count),
+    );
+    show::all_kept(list.count, releases, deadlines, volumes);
+}
+
+fn write_same(h: u16, q: u16, bytes: &[u8], releases: &[u16], deadlines: &[u16], volumes: &[u16]) {
     let mut out = [9u8; 454];
-    match joblist::write(
-        h,
-        q,
-        first(releases, count),
-        first(deadlines, count),
-        first(volumes, count),
-        &mut out,
-    ) {
-        ListWritten::Written(n) => {
-            show::written(n);
-            show::same(n, bytes, &out);
-        }
+    match joblist::write(h, q, releases, deadlines, volumes, &mut out) {
+        ListWritten::Written(n) => show::same(n, bytes, &out),
         ListWritten::Refused(r) => show::refused(r),
     }
-    show::all_kept(count, releases, deadlines, volumes);
+}
+
+// Reads into lists of these lengths.
+fn read_with(bytes: &[u8], releases: usize, deadlines: usize, volumes: usize)
+    requires { ⌜ (releases ≤ 65) × (deadlines ≤ 65) × (volumes ≤ 65) ⌝ }
+{
+    let mut first = [7777u16; 65];
+    let mut second = [7777u16; 65];
+    let mut third = [7777u16; 65];
+    read_into(
+        bytes,
+        &mut first[..releases],
+        &mut second[..deadlines],
+        &mut third[..volumes],
+    );
 }
 
 fn read(bytes: &[u8]) {
-    let mut releases = [7777u16; 64];
-    let mut deadlines = [7777u16; 64];
-    let mut volumes = [7777u16; 64];
-    read_into(bytes, &mut releases, &mut deadlines, &mut volumes);
+    read_with(bytes, 64, 64, 64);
 }
 
 fn write(h: u16, q: u16, releases: &[u16], deadlines: &[u16], volumes: &[u16], out: &mut [u8]) {
@@ -81,25 +81,37 @@ fn write(h: u16, q: u16, releases: &[u16], deadlines: &[u16], volumes: &[u16], o
     show::end();
 }
 
-// 11, 12, 13, 14, 15, 16 at their first places.
-fn first_places() {
+// 11 and 12 at their first places.
+fn first_headers() {
     read(&EXAMPLE);
     read(b"");
     read(b"\x0a\x00\x03\x00");
     read(b"\x0a\x00\x03\x00\x01");
     read(b"\x0a\x00\x03\x00\x01\x07");
     read(b"\x00\x00\x03\x00\xff");
+}
+
+// 12, and 13.
+fn first_bits() {
     read(b"\x01\x10\x03\x00\x00");
     read(b"\x00\x10\x03\x00\x00");
     read(b"\x0a\x00\x03\x00\x41");
     read(b"\x0a\x00\x03\x00\x01\x08");
     read(b"\x0a\x00\x03\x00\x01\x80");
+}
+
+// 14.
+fn first_fields() {
     read(b"\x0a\x00\x03\x00\x01\x01\x00\x00");
     read(b"\x0a\x00\x03\x00\x01\x03\x00\x00\x0a");
     read(b"\x0a\x00\x03\x00\x01\x07\x01\x00\x0a\x00\x01\x00");
     read(b"\x0a\x00\x03\x00\x01\x07\x01\x00\x09\x00\x01\x00");
     read(b"\x0a\x00\x03\x00\x01\x02\x0a\x00");
     read(b"\x0a\x00\x03\x00\x01\x04\x01\x00");
+}
+
+// 15, and 16.
+fn first_jobs() {
     read(b"\x0a\x00\x03\x00\x01\x03\x04\x00\x04\x00");
     read(b"\x0a\x00\x03\x00\x01\x03\x03\x00\x04\x00");
     read(b"\x0a\x00\x03\x00\x01\x02\x0b\x00");
@@ -589,78 +601,104 @@ fn last_places() {
     long_with(1, 17, 453);
 }
 
-// 17 with each list too short in turn; the header is looked at first, the jobs are not.
+// 17 with each list too short in turn.
 fn short_lists() {
     let bytes = LONGEST;
-    let mut long = [7777u16; 64];
-    let mut other = [7777u16; 65];
-    let mut short = [7777u16; 63];
-    read_into(&bytes, &mut short, &mut long, &mut other);
-    read_into(&bytes, &mut long, &mut short, &mut other);
-    read_into(&bytes, &mut other, &mut long, &mut short);
-    read_into(b"\x0a\x00\x03\x00\x40", &mut long, &mut short, &mut other);
-    read_into(b"\x0a\x00\x03\x00\x41", &mut long, &mut short, &mut other);
-    let mut one = [7777u16; 1];
-    read_into(
-        b"\x0a\x00\x03\x00\x02\x00\x00",
-        &mut long,
-        &mut other,
-        &mut one,
-    );
-    read_into(b"\x0a\x00\x03\x00\x01\x00", &mut long, &mut other, &mut one);
+    read_with(&bytes, 63, 64, 65);
+    read_with(&bytes, 64, 63, 65);
+    read_with(&bytes, 65, 64, 63);
+}
+
+// The header is looked at before 17, the jobs are not; 17 at its first place.
+fn short_heads() {
+    read_with(b"\x0a\x00\x03\x00\x40", 64, 63, 65);
+    read_with(b"\x0a\x00\x03\x00\x41", 64, 63, 65);
+    read_with(b"\x0a\x00\x03\x00\x02\x00\x00", 64, 65, 1);
+    read_with(b"\x0a\x00\x03\x00\x01\x00", 64, 65, 1);
+    read_with(b"\x0a\x00\x03\x00\x01\x00", 0, 0, 0);
+}
+
+// The three jobs of the example, with so many deadlines and volumes.
+fn write_example(h: u16, deadlines: usize, volumes: usize, out: &mut [u8]) {
+    let rs = [0u16, 8, 0];
+    let ds = [3u16, 10, 10];
+    let ps = [1u16, 2, 5];
+    write(h, 3, &rs, first(&ds, deadlines), first(&ps, volumes), out);
 }
 
 // The writer's refusals, in their order, and buffers that are just long enough and one byte short.
 fn writer() {
     let mut out = [9u8; 16];
-    let releases = [0u16, 8, 0];
-    let deadlines = [3u16, 10, 10];
-    let volumes = [1u16, 2, 5];
-    write(10, 3, &releases, &deadlines, &volumes, &mut out);
     let mut short = [9u8; 15];
-    write(10, 3, &releases, &deadlines, &volumes, &mut short);
-    write(9, 3, &releases, &deadlines, &volumes, &mut short);
-    write(0, 3, &releases, &deadlines, &[], &mut out);
-    write(4097, 3, &releases, &deadlines, &volumes, &mut out);
-    write(10, 3, &releases, &deadlines, &[], &mut out);
-    write(10, 3, &releases, &[], &volumes, &mut out);
+    write_example(10, 3, 3, &mut out);
+    write_example(10, 3, 3, &mut short);
+    write_example(9, 3, 3, &mut short);
+    write_example(0, 3, 0, &mut out);
+    write_example(4097, 3, 3, &mut out);
+    write_example(10, 3, 0, &mut out);
+    write_example(10, 0, 3, &mut out);
 }
 
-// No job, and one job.
+// No job, or just the one.
+fn write_few(n: usize, h: u16, q: u16, r: u16, d: u16, p: u16, out: &mut [u8]) {
+    let rs = [r];
+    let ds = [d];
+    let ps = [p];
+    write(h, q, first(&rs, n), first(&ds, n), first(&ps, n), out);
+}
+
+// No job, one job, and 17 at its first place.
 fn short_writer() {
     let mut out = [9u8; 16];
-    write(4096, 65535, &[], &[], &[], &mut out);
-    write(10, 3, &[4], &[4], &[1], &mut out);
-    write(10, 3, &[4], &[5], &[0], &mut out);
+    let mut short = [9u8; 4];
+    write_few(0, 4096, 65535, 0, 0, 0, &mut out);
+    write_few(1, 10, 3, 4, 4, 1, &mut out);
+    write_few(1, 10, 3, 4, 5, 0, &mut out);
+    write_few(0, 4096, 65535, 0, 0, 0, &mut short);
+}
+
+// 64 jobs (1, 2, 65535), 453 bytes long, but for the first and the last release.
+fn write_64(first: u16, last: u16, out: &mut [u8]) {
+    let mut releases = [1u16; 64];
+    let deadlines = [2u16; 64];
+    let volumes = [65535u16; 64];
+    releases[0] = first;
+    releases[63] = last;
+    write(4096, 0, &releases, &deadlines, &volumes, out);
+}
+
+// 65 releases and deadlines, and so many volumes.
+fn write_65(h: u16, volumes: usize, out: &mut [u8]) {
+    let many = [1u16; 65];
+    write(h, 0, &many, &many, first(&many, volumes), out);
 }
 
 // 64 and 65 jobs.
 fn long_writer() {
-    let mut releases = [1u16; 64];
-    let deadlines = [2u16; 64];
-    let volumes = [65535u16; 64];
     let mut out = [9u8; 453];
     let mut short = [9u8; 452];
-    write(4096, 0, &releases, &deadlines, &volumes, &mut short);
-    write(4096, 0, &releases, &deadlines, &volumes, &mut out);
-    releases[63] = 2;
-    write(4096, 0, &releases, &deadlines, &volumes, &mut short);
-    releases[0] = 2;
-    write(4096, 0, &releases, &deadlines, &volumes, &mut short);
-    let many = [1u16; 65];
-    write(4096, 0, &many, &many, &many, &mut short);
-    write(4096, 0, &many, &many, &volumes, &mut short);
-    write(0, 0, &many, &many, &volumes, &mut short);
+    write_64(1, 1, &mut short);
+    write_64(1, 1, &mut out);
+    write_64(1, 2, &mut short);
+    write_64(2, 2, &mut short);
+    write_65(4096, 65, &mut short);
+    write_65(4096, 64, &mut short);
+    write_65(0, 64, &mut short);
 }
 
-// The list in hex with one byte changed to each of ten values.
+// The list in hex with one byte changed.
+fn example_with(at: usize, value: usize) {
+    let mut bytes = EXAMPLE;
+    show::put(&mut bytes, at, value);
+    read(&bytes);
+}
+
+// Each byte is changed to each of ten values.
 fn damage(at: usize) {
     let values = [0usize, 1, 2, 3, 4, 7, 8, 10, 64, 255];
     let mut i = 0;
     while i < 10 {
-        let mut bytes = EXAMPLE;
-        show::put(&mut bytes, at, values[i]);
-        read(&bytes);
+        example_with(at, values[i]);
         i += 1;
     }
 }
@@ -674,9 +712,13 @@ fn damage_each() {
 }
 
 fn main() {
-    first_places();
+    first_headers();
+    first_bits();
+    first_fields();
+    first_jobs();
     last_places();
     short_lists();
+    short_heads();
     writer();
     short_writer();
     long_writer();

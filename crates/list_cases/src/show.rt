@@ -88,6 +88,12 @@ pub fn all_kept(from: usize, releases: &[u16], deadlines: &[u16], volumes: &[u16
     kept(from, volumes);
 }
 
+// A refusal to read, and that the lists are as they were lent.
+pub fn not_read(r: Refusal, releases: &[u16], deadlines: &[u16], volumes: &[u16]) {
+    refused(r);
+    all_kept(0, releases, deadlines, volumes);
+}
+
 // The first n bytes, or all where there are fewer.
 pub fn part(bytes: &[u8], n: usize) -> &[u8] {
     if n <= bytes.len() { &bytes[..n] } else { bytes }
@@ -97,8 +103,9 @@ fn byte(bytes: &[u8], i: usize) -> u8 {
     if i < bytes.len() { bytes[i] } else { 9 }
 }
 
-// Whether the n bytes written are those read, and the next one is as it was lent.
+// That n bytes were written, whether they are those read, and the next one is as it was lent.
 pub fn same(n: usize, bytes: &[u8], out: &[u8]) {
+    written(n);
     if check::same(bytes, part(out, n)) {
         text(b" same");
     }

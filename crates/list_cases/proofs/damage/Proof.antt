@@ -13,23 +13,14 @@ abbrev μ-loop : tie.MeasureT-loop
 loop-holds : tie.Need-loop-holds Inv-loop μ-loop
 loop-holds c = search needs
 
-slice-aggregate-put : tie.Need-slice-aggregate-put Inv-loop μ-loop
-slice-aggregate-put c = search needs
+mul-example-with : tie.Need-mul-example-with Inv-loop μ-loop
+mul-example-with c = search needs
 
-mul-put : tie.Need-mul-put Inv-loop μ-loop
-mul-put c = search needs
+array-read-example-with : tie.Need-array-read-example-with Inv-loop μ-loop
+array-read-example-with c = search needs
 
-array-read-put : tie.Need-array-read-put Inv-loop μ-loop
-array-read-put c = search needs
-
-put-requires : tie.Need-put-requires Inv-loop μ-loop
-put-requires c κs = search needs
-
-slice-aggregate-read : tie.Need-slice-aggregate-read Inv-loop μ-loop
-slice-aggregate-read c = search needs
-
-read-requires : tie.Need-read-requires Inv-loop μ-loop
-read-requires c κs = search needs
+example-with-requires : tie.Need-example-with-requires Inv-loop μ-loop
+example-with-requires c κs = search needs
 
 add-i : tie.Need-add-i Inv-loop μ-loop
 add-i c = search needs
@@ -50,12 +41,9 @@ damage-spec =
     Inv-loop
     μ-loop
     loop-holds
-    slice-aggregate-put
-    mul-put
-    array-read-put
-    put-requires
-    slice-aggregate-read
-    read-requires
+    mul-example-with
+    array-read-example-with
+    example-with-requires
     add-i
     loop-less
     loop-again

@@ -21,7 +21,12 @@ add-t10 : tie.Need-add-t10
 add-t10 c = search needs
 
 returns : tie.Need-returns
-returns c = let a = c .before .before .before .before .before .args in let b = a .bytes .now in let h = a .h in release-refused h (a .job) (a .at) b (tested hasRelease (λ m. releaseAt) absentRelease b (c .before .before .before .byte .result) releaseAt (c .before .before .has-release .result) (c .before .is-redundant .result) true (c .before .before .before .byte .ensures) (c .before .before .has-release .ensures) refl (c .before .is-redundant .ensures) (c .if1 .taken))
+returns c =
+    let a = c .before .before .before .before .before .args in
+    let b = a .bytes .now in
+    let h = a .h in
+    let first = tested hasRelease (λ m. releaseAt) absentRelease b (c .before .before .before .byte .result) releaseAt (c .before .before .has-release .result) (c .before .is-redundant .result) true (c .before .before .before .byte .ensures) (c .before .before .has-release .ensures) refl (c .before .is-redundant .ensures) (c .if1 .taken) in
+    release-refused h (a .job) (a .at) b first
 
 deadline-at-requires : tie.Need-deadline-at-requires
 deadline-at-requires c κs = search needs
@@ -36,7 +41,15 @@ add-t13 : tie.Need-add-t13
 add-t13 c = omega (arith, c .before .before .before .deadline-at .ensures, deadline-at-small (c .before .before .before .before .before .before .before .byte .result), c .before .before .before .before .before .before .before .before .before .pre, ap entryLength (c .before .before .before .before .before .before .before .byte .ensures))
 
 returns-2 : tie.Need-returns-2
-returns-2 c = let a = c .before .before .before .before .before .before .before .before .before .args in let b = a .bytes .now in let h = a .h in deadline-refused h (a .job) (a .at) b (c .before .before .before .before .before .before .before .byte .result) (c .before .before .before .deadline-at .result) (c .before .before .before .before .before .before .before .byte .ensures) (c .before .before .before .deadline-at .ensures) (tested hasRelease (λ m. releaseAt) absentRelease b (c .before .before .before .before .before .before .before .byte .result) releaseAt (c .before .before .before .before .before .before .has-release .result) (c .before .before .before .before .before .is-redundant .result) false (c .before .before .before .before .before .before .before .byte .ensures) (c .before .before .before .before .before .before .has-release .ensures) refl (c .before .before .before .before .before .is-redundant .ensures) (c .before .before .before .before .if1 .left)) (tested hasDeadline deadlineAt (absentDeadline h) b (c .before .before .before .before .before .before .before .byte .result) (c .before .before .before .deadline-at .result) (c .before .before .has-deadline .result) (c .before .is-redundant2 .result) true (c .before .before .before .before .before .before .before .byte .ensures) (c .before .before .has-deadline .ensures) (c .before .before .before .deadline-at .ensures) (c .before .is-redundant2 .ensures) (c .if2 .taken))
+returns-2 c =
+    let c₄ = c .before .before .before .before in
+    let c₈ = c₄ .before .before .before .before in
+    let a = c₈ .before .args in
+    let b = a .bytes .now in
+    let h = a .h in
+    let first = tested hasRelease (λ m. releaseAt) absentRelease b (c₄ .before .before .before .byte .result) releaseAt (c₄ .before .before .has-release .result) (c₄ .before .is-redundant .result) false (c₄ .before .before .before .byte .ensures) (c₄ .before .before .has-release .ensures) refl (c₄ .before .is-redundant .ensures) (c₄ .if1 .left) in
+    let second = tested hasDeadline deadlineAt (absentDeadline h) b (c₄ .before .before .before .byte .result) (c .before .before .before .deadline-at .result) (c .before .before .has-deadline .result) (c .before .is-redundant2 .result) true (c₄ .before .before .before .byte .ensures) (c .before .before .has-deadline .ensures) (c .before .before .before .deadline-at .ensures) (c .before .is-redundant2 .ensures) (c .if2 .taken) in
+    deadline-refused h (a .job) (a .at) b (c₄ .before .before .before .byte .result) (c .before .before .before .deadline-at .result) (c₄ .before .before .before .byte .ensures) (c .before .before .before .deadline-at .ensures) first second
 
 volume-at-requires : tie.Need-volume-at-requires
 volume-at-requires c κs = search needs
@@ -51,7 +64,17 @@ add-t16 : tie.Need-add-t16
 add-t16 c = omega (arith, c .before .before .before .volume-at .ensures, c .before .before .before .before .before .before .before .before .before .before .before .before .before .pre, ap entryLength (c .before .before .before .before .before .before .before .before .before .before .before .byte .ensures))
 
 returns-3 : tie.Need-returns-3
-returns-3 c = let a = c .before .before .before .before .before .before .before .before .before .before .before .before .before .args in let b = a .bytes .now in let h = a .h in volume-refused h (a .job) (a .at) b (c .before .before .before .before .before .before .before .before .before .before .before .byte .result) (c .before .before .before .volume-at .result) (c .before .before .before .before .before .before .before .before .before .before .before .byte .ensures) (c .before .before .before .volume-at .ensures) (tested hasRelease (λ m. releaseAt) absentRelease b (c .before .before .before .before .before .before .before .before .before .before .before .byte .result) releaseAt (c .before .before .before .before .before .before .before .before .before .before .has-release .result) (c .before .before .before .before .before .before .before .before .before .is-redundant .result) false (c .before .before .before .before .before .before .before .before .before .before .before .byte .ensures) (c .before .before .before .before .before .before .before .before .before .before .has-release .ensures) refl (c .before .before .before .before .before .before .before .before .before .is-redundant .ensures) (c .before .before .before .before .before .before .before .before .if1 .left)) (tested hasDeadline deadlineAt (absentDeadline h) b (c .before .before .before .before .before .before .before .before .before .before .before .byte .result) (c .before .before .before .before .before .before .before .deadline-at .result) (c .before .before .before .before .before .before .has-deadline .result) (c .before .before .before .before .before .is-redundant2 .result) false (c .before .before .before .before .before .before .before .before .before .before .before .byte .ensures) (c .before .before .before .before .before .before .has-deadline .ensures) (c .before .before .before .before .before .before .before .deadline-at .ensures) (c .before .before .before .before .before .is-redundant2 .ensures) (c .before .before .before .before .if2 .left)) (tested hasVolume volumeAt absentVolume b (c .before .before .before .before .before .before .before .before .before .before .before .byte .result) (c .before .before .before .volume-at .result) (c .before .before .has-volume .result) (c .before .is-redundant3 .result) true (c .before .before .before .before .before .before .before .before .before .before .before .byte .ensures) (c .before .before .has-volume .ensures) (c .before .before .before .volume-at .ensures) (c .before .is-redundant3 .ensures) (c .if3 .taken))
+returns-3 c =
+    let c₄ = c .before .before .before .before in
+    let c₈ = c₄ .before .before .before .before in
+    let c₁₂ = c₈ .before .before .before .before in
+    let a = c₁₂ .before .args in
+    let b = a .bytes .now in
+    let h = a .h in
+    let first = tested hasRelease (λ m. releaseAt) absentRelease b (c₈ .before .before .before .byte .result) releaseAt (c₈ .before .before .has-release .result) (c₈ .before .is-redundant .result) false (c₈ .before .before .before .byte .ensures) (c₈ .before .before .has-release .ensures) refl (c₈ .before .is-redundant .ensures) (c₈ .if1 .left) in
+    let second = tested hasDeadline deadlineAt (absentDeadline h) b (c₈ .before .before .before .byte .result) (c₄ .before .before .before .deadline-at .result) (c₄ .before .before .has-deadline .result) (c₄ .before .is-redundant2 .result) false (c₈ .before .before .before .byte .ensures) (c₄ .before .before .has-deadline .ensures) (c₄ .before .before .before .deadline-at .ensures) (c₄ .before .is-redundant2 .ensures) (c₄ .if2 .left) in
+    let third = tested hasVolume volumeAt absentVolume b (c₈ .before .before .before .byte .result) (c .before .before .before .volume-at .result) (c .before .before .has-volume .result) (c .before .is-redundant3 .result) true (c₈ .before .before .before .byte .ensures) (c .before .before .has-volume .ensures) (c .before .before .before .volume-at .ensures) (c .before .is-redundant3 .ensures) (c .if3 .taken) in
+    volume-refused h (a .job) (a .at) b (c₈ .before .before .before .byte .result) (c .before .before .before .volume-at .result) (c₈ .before .before .before .byte .ensures) (c .before .before .before .volume-at .ensures) first second third
 
 release-requires : tie.Need-release-requires
 release-requires c κs = search needs
@@ -66,7 +89,18 @@ check-job-requires : tie.Need-check-job-requires
 check-job-requires c κs = search needs
 
 returns-4 : tie.Need-returns-4
-returns-4 c = let a = c .before .before .before .before .before .before .before .before .before .before .before .before .before .before .before .before .before .args in let b = a .bytes .now in let h = a .h in job-decides h (a .job) (a .at) b (c .before .before .before .release .result) (c .before .before .deadline .result) (c .before .volume .result) (c .check-job .result) (c .before .before .before .release .ensures) (c .before .before .deadline .ensures) (c .before .volume .ensures) (tested hasRelease (λ m. releaseAt) absentRelease b (c .before .before .before .before .before .before .before .before .before .before .before .before .before .before .before .byte .result) releaseAt (c .before .before .before .before .before .before .before .before .before .before .before .before .before .before .has-release .result) (c .before .before .before .before .before .before .before .before .before .before .before .before .before .is-redundant .result) false (c .before .before .before .before .before .before .before .before .before .before .before .before .before .before .before .byte .ensures) (c .before .before .before .before .before .before .before .before .before .before .before .before .before .before .has-release .ensures) refl (c .before .before .before .before .before .before .before .before .before .before .before .before .before .is-redundant .ensures) (c .before .before .before .before .before .before .before .before .before .before .before .before .if1 .left)) (tested hasDeadline deadlineAt (absentDeadline h) b (c .before .before .before .before .before .before .before .before .before .before .before .before .before .before .before .byte .result) (c .before .before .before .before .before .before .before .before .before .before .before .deadline-at .result) (c .before .before .before .before .before .before .before .before .before .before .has-deadline .result) (c .before .before .before .before .before .before .before .before .before .is-redundant2 .result) false (c .before .before .before .before .before .before .before .before .before .before .before .before .before .before .before .byte .ensures) (c .before .before .before .before .before .before .before .before .before .before .has-deadline .ensures) (c .before .before .before .before .before .before .before .before .before .before .before .deadline-at .ensures) (c .before .before .before .before .before .before .before .before .before .is-redundant2 .ensures) (c .before .before .before .before .before .before .before .before .if2 .left)) (tested hasVolume volumeAt absentVolume b (c .before .before .before .before .before .before .before .before .before .before .before .before .before .before .before .byte .result) (c .before .before .before .before .before .before .before .volume-at .result) (c .before .before .before .before .before .before .has-volume .result) (c .before .before .before .before .before .is-redundant3 .result) false (c .before .before .before .before .before .before .before .before .before .before .before .before .before .before .before .byte .ensures) (c .before .before .before .before .before .before .has-volume .ensures) (c .before .before .before .before .before .before .before .volume-at .ensures) (c .before .before .before .before .before .is-redundant3 .ensures) (c .before .before .before .before .if3 .left)) (c .check-job .ensures)
+returns-4 c =
+    let c₄ = c .before .before .before .before in
+    let c₈ = c₄ .before .before .before .before in
+    let c₁₂ = c₈ .before .before .before .before in
+    let c₁₆ = c₁₂ .before .before .before .before in
+    let a = c₁₆ .before .args in
+    let b = a .bytes .now in
+    let h = a .h in
+    let first = tested hasRelease (λ m. releaseAt) absentRelease b (c₁₂ .before .before .before .byte .result) releaseAt (c₁₂ .before .before .has-release .result) (c₁₂ .before .is-redundant .result) false (c₁₂ .before .before .before .byte .ensures) (c₁₂ .before .before .has-release .ensures) refl (c₁₂ .before .is-redundant .ensures) (c₁₂ .if1 .left) in
+    let second = tested hasDeadline deadlineAt (absentDeadline h) b (c₁₂ .before .before .before .byte .result) (c₈ .before .before .before .deadline-at .result) (c₈ .before .before .has-deadline .result) (c₈ .before .is-redundant2 .result) false (c₁₂ .before .before .before .byte .ensures) (c₈ .before .before .has-deadline .ensures) (c₈ .before .before .before .deadline-at .ensures) (c₈ .before .is-redundant2 .ensures) (c₈ .if2 .left) in
+    let third = tested hasVolume volumeAt absentVolume b (c₁₂ .before .before .before .byte .result) (c₄ .before .before .before .volume-at .result) (c₄ .before .before .has-volume .result) (c₄ .before .is-redundant3 .result) false (c₁₂ .before .before .before .byte .ensures) (c₄ .before .before .has-volume .ensures) (c₄ .before .before .before .volume-at .ensures) (c₄ .before .is-redundant3 .ensures) (c₄ .if3 .left) in
+    job-decides h (a .job) (a .at) b (c .before .before .before .release .result) (c .before .before .deadline .result) (c .before .volume .result) (c .check-job .result) (c .before .before .before .release .ensures) (c .before .before .deadline .ensures) (c .before .volume .ensures) first second third (c .check-job .ensures)
 
 pub check-fields-spec : {M : Type 1} → statement M
 check-fields-spec =

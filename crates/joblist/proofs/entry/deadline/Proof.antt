@@ -20,7 +20,9 @@ value-requires : tie.Need-value-requires
 value-requires c κs = omega (arith, c .deadline-at .ensures, deadline-at-small (c .before .before .byte .result))
 
 returns : tie.Need-returns
-returns c = let a = c .before .before .before .before .before .args in at-field (λ t l. valueIf t (absentDeadline (a .h)) l) hasDeadline deadlineAt (a .bytes .now) (c .before .before .before .byte .result) (c .before .deadline-at .result) (c .before .before .has-deadline .result) (c .value .result) (c .before .before .before .byte .ensures) (c .before .before .has-deadline .ensures) (c .before .deadline-at .ensures) (c .value .ensures)
+returns c =
+    let a = c .before .before .before .before .before .args in
+    at-field (λ t l. valueIf t (absentDeadline (a .h)) l) hasDeadline deadlineAt (a .bytes .now) (c .before .before .before .byte .result) (c .before .deadline-at .result) (c .before .before .has-deadline .result) (c .value .result) (c .before .before .before .byte .ensures) (c .before .before .has-deadline .ensures) (c .before .deadline-at .ensures) (c .value .ensures)
 
 pub deadline-spec : {M : Type 1} → statement M
 deadline-spec =

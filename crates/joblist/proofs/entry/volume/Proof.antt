@@ -20,7 +20,9 @@ value-requires : tie.Need-value-requires
 value-requires c κs = omega (arith, c .volume-at .ensures, volume-at-small (c .before .before .byte .result))
 
 returns : tie.Need-returns
-returns c = let a = c .before .before .before .before .before .args in at-field (λ t l. valueIf t absentVolume l) hasVolume volumeAt (a .bytes .now) (c .before .before .before .byte .result) (c .before .volume-at .result) (c .before .before .has-volume .result) (c .value .result) (c .before .before .before .byte .ensures) (c .before .before .has-volume .ensures) (c .before .volume-at .ensures) (c .value .ensures)
+returns c =
+    let a = c .before .before .before .before .before .args in
+    at-field (λ t l. valueIf t absentVolume l) hasVolume volumeAt (a .bytes .now) (c .before .before .before .byte .result) (c .before .volume-at .result) (c .before .before .has-volume .result) (c .value .result) (c .before .before .before .byte .ensures) (c .before .before .has-volume .ensures) (c .before .volume-at .ensures) (c .value .ensures)
 
 pub volume-spec : {M : Type 1} → statement M
 volume-spec =

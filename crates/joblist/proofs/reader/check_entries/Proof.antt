@@ -46,7 +46,15 @@ size-requires : tie.Need-size-requires Inv-loop μ-loop
 size-requires c κs = search needs
 
 add-at : tie.Need-add-at Inv-loop μ-loop
-add-at c = let a = c .before .before .before .before .before .before .before .before .before .args in let b = a .bytes .now in let l = c .before .before .before .before .before .before .before .loop in let rest = take (length b - l .at) (drop (l .at) b) in let s = sized rest (c .before .byte .result) (c .size .result) (c .before .byte .ensures) (c .size .ensures) in let p = told (c .before .before .before .before .check .result) (entryCheck (a .h) (length b) (l .job) (l .at) rest) Passed (c .before .before .before .before .check .ensures) (c .before .before .enum-told .given .1) in let w = within (a .h) (length b) b (l .job) (l .at) (c .size .result) rest (l .inv .0) (part-rest (l .at) b) s p in omega (arith, w)
+add-at c =
+    let a = c .before .before .before .before .before .before .before .before .before .args in
+    let b = a .bytes .now in
+    let l = c .before .before .before .before .before .before .before .loop in
+    let rest = take (length b - l .at) (drop (l .at) b) in
+    let s = sized rest (c .before .byte .result) (c .size .result) (c .before .byte .ensures) (c .size .ensures) in
+    let p = told (c .before .before .before .before .check .result) (entryCheck (a .h) (length b) (l .job) (l .at) rest) Passed (c .before .before .before .before .check .ensures) (c .before .before .enum-told .given .1) in
+    let w = within (a .h) (length b) b (l .job) (l .at) (c .size .result) rest (l .inv .0) (part-rest (l .at) b) s p in
+    omega (arith, w)
 
 add-job : tie.Need-add-job Inv-loop μ-loop
 add-job c = search needs
@@ -55,19 +63,40 @@ loop-less : tie.Need-loop-less Inv-loop μ-loop
 loop-less c = search needs
 
 loop-again : tie.Need-loop-again Inv-loop μ-loop
-loop-again c = let a = c .before .before .before .before .before .before .before .before .before .args in let b = a .bytes .now in let l = c .before .before .before .before .before .before .before .loop in let rest = take (length b - l .at) (drop (l .at) b) in let s = sized rest (c .before .byte .result) (c .size .result) (c .before .byte .ensures) (c .size .ensures) in let p = told (c .before .before .before .before .check .result) (entryCheck (a .h) (length b) (l .job) (l .at) rest) Passed (c .before .before .before .before .check .ensures) (c .before .before .enum-told .given .1) in let w = within (a .h) (length b) b (l .job) (l .at) (c .size .result) rest (l .inv .0) (part-rest (l .at) b) s p in (w, search needs, entries-next (a .h) (length b) b _ (a .count) (l .job) (l .at) (c .size .result) rest (c .before .before .before .before .before .before .loop-test .taken) (part-rest (l .at) b) s p (l .inv .2))
+loop-again c =
+    let a = c .before .before .before .before .before .before .before .before .before .args in
+    let b = a .bytes .now in
+    let l = c .before .before .before .before .before .before .before .loop in
+    let rest = take (length b - l .at) (drop (l .at) b) in
+    let s = sized rest (c .before .byte .result) (c .size .result) (c .before .byte .ensures) (c .size .ensures) in
+    let p = told (c .before .before .before .before .check .result) (entryCheck (a .h) (length b) (l .job) (l .at) rest) Passed (c .before .before .before .before .check .ensures) (c .before .before .enum-told .given .1) in
+    let w = within (a .h) (length b) b (l .job) (l .at) (c .size .result) rest (l .inv .0) (part-rest (l .at) b) s p in
+    (w, search needs, entries-next (a .h) (length b) b _ (a .count) (l .job) (l .at) (c .size .result) rest (c .before .before .before .before .before .before .loop-test .taken) (part-rest (l .at) b) s p (l .inv .2))
 
 enum-known-r : tie.Need-enum-known-r Inv-loop μ-loop
 enum-known-r c = search needs
 
 returns : tie.Need-returns Inv-loop μ-loop
-returns c = let a = c .before .before .before .before .before .before .before .before .args in let b = a .bytes .now in let l = c .before .before .before .before .before .before .loop in let rest = take (length b - l .at) (drop (l .at) b) in entries-stop (a .h) (length b) b _ (a .count) (l .job) (l .at) rest _ (c .before .before .before .before .before .loop-test .taken) (part-rest (l .at) b) (told (c .before .before .before .check .result) (entryCheck (a .h) (length b) (l .job) (l .at) rest) _ (c .before .before .before .check .ensures) (c .before .r .given .1)) (l .inv .2)
+returns c =
+    let a = c .before .before .before .before .before .before .before .before .args in
+    let b = a .bytes .now in
+    let l = c .before .before .before .before .before .before .loop in
+    let rest = take (length b - l .at) (drop (l .at) b) in
+    entries-stop (a .h) (length b) b _ (a .count) (l .job) (l .at) rest _ (c .before .before .before .before .before .loop-test .taken) (part-rest (l .at) b) (told (c .before .before .before .check .result) (entryCheck (a .h) (length b) (l .job) (l .at) rest) _ (c .before .before .before .check .ensures) (c .before .r .given .1)) (l .inv .2)
 
 returns-2 : tie.Need-returns-2 Inv-loop μ-loop
-returns-2 c = let a = c .before .before .before .before .args in let b = a .bytes .now in let l = c .before .before .loop in entries-left-over (a .h) (length b) b _ (a .count) (l .job) (l .at) (c .before .loop-test .left) (c .if1 .taken) (l .inv .2)
+returns-2 c =
+    let a = c .before .before .before .before .args in
+    let b = a .bytes .now in
+    let l = c .before .before .loop in
+    entries-left-over (a .h) (length b) b _ (a .count) (l .job) (l .at) (c .before .loop-test .left) (c .if1 .taken) (l .inv .2)
 
 returns-3 : tie.Need-returns-3 Inv-loop μ-loop
-returns-3 c = let a = c .before .before .before .before .args in let b = a .bytes .now in let l = c .before .before .loop in entries-end (a .h) (length b) b _ (a .count) (l .job) (l .at) (c .before .loop-test .left) (c .if1 .left) (l .inv .2)
+returns-3 c =
+    let a = c .before .before .before .before .args in
+    let b = a .bytes .now in
+    let l = c .before .before .loop in
+    entries-end (a .h) (length b) b _ (a .count) (l .job) (l .at) (c .before .loop-test .left) (c .if1 .left) (l .inv .2)
 
 pub check-entries-spec : {M : Type 1} → statement M
 check-entries-spec =

@@ -23,7 +23,10 @@ abbrev μ-loop : tie.MeasureT-loop
 μ-loop h count bytes releases₀ deadlines₀ volumes₀ at₀ job₀ releases deadlines volumes at job = count - job
 
 loop-holds : tie.Need-loop-holds Inv-loop μ-loop
-loop-holds c = let p = c .before .before .before .before .pre in let z = sub-zero (c .before .before .before .before .args .count) in (p .long, search needs, rw z (p .passed), record { same = refl; stored = rw z }, record { same = refl; stored = rw z }, record { same = refl; stored = rw z })
+loop-holds c =
+    let p = c .before .before .before .before .pre in
+    let z = sub-zero (c .before .before .before .before .args .count) in
+    (p .long, search needs, rw z (p .passed), record { same = refl; stored = rw z }, record { same = refl; stored = rw z }, record { same = refl; stored = rw z })
 
 sub-rest : tie.Need-sub-rest Inv-loop μ-loop
 sub-rest c = search needs
@@ -68,7 +71,16 @@ size-requires : tie.Need-size-requires Inv-loop μ-loop
 size-requires c κs = search needs
 
 add-at : tie.Need-add-at Inv-loop μ-loop
-add-at c = let a = c .before .before .before .before .before .before .before .before .before .before .before .before .args in let b = a .bytes .now in let l = c .before .before .before .before .before .before .before .loop in let at = l .at in let job = l .job in let t = c .before .before .before .before .before .before .loop-test .taken in let s = sized (take (length b - at) (drop at b)) (c .before .byte .result) (c .size .result) (c .before .byte .ensures) (c .size .ensures) in let w = within (a .h) (length b) b job at (c .size .result) (take (length b - at) (drop at b)) (l .inv .0) (part-rest at b) s (passed-here (a .h) (length b) b (a .count) job at (take (length b - at) (drop at b)) t (part-rest at b) (l .inv .2)) in omega (arith, w)
+add-at c =
+    let a = c .before .before .before .before .before .before .before .before .before .before .before .before .args in
+    let b = a .bytes .now in
+    let l = c .before .before .before .before .before .before .before .loop in
+    let at = l .at in
+    let job = l .job in
+    let t = c .before .before .before .before .before .before .loop-test .taken in
+    let s = sized (take (length b - at) (drop at b)) (c .before .byte .result) (c .size .result) (c .before .byte .ensures) (c .size .ensures) in
+    let w = within (a .h) (length b) b job at (c .size .result) (take (length b - at) (drop at b)) (l .inv .0) (part-rest at b) s (passed-here (a .h) (length b) b (a .count) job at (take (length b - at) (drop at b)) t (part-rest at b) (l .inv .2)) in
+    omega (arith, w)
 
 add-job : tie.Need-add-job Inv-loop μ-loop
 add-job c = search needs
@@ -77,7 +89,16 @@ loop-less : tie.Need-loop-less Inv-loop μ-loop
 loop-less c = search needs
 
 loop-again : tie.Need-loop-again Inv-loop μ-loop
-loop-again c = let a = c .before .before .before .before .before .before .before .before .before .before .before .before .args in let b = a .bytes .now in let l = c .before .before .before .before .before .before .before .loop in let at = l .at in let job = l .job in let t = c .before .before .before .before .before .before .loop-test .taken in let s = sized (take (length b - at) (drop at b)) (c .before .byte .result) (c .size .result) (c .before .byte .ensures) (c .size .ensures) in let w = within (a .h) (length b) b job at (c .size .result) (take (length b - at) (drop at b)) (l .inv .0) (part-rest at b) s (passed-here (a .h) (length b) b (a .count) job at (take (length b - at) (drop at b)) t (part-rest at b) (l .inv .2)) in (w, search needs, passed-next (a .h) (length b) b (a .count) job at (c .size .result) (take (length b - at) (drop at b)) t (part-rest at b) s (l .inv .2), column-next releaseOf b (a .releases .now) (l .releases) (a .count) job at (c .size .result) _ (take (length b - at) (drop at b)) t (part-rest at b) s (c .before .before .before .before .release .ensures) (l .inv .3), column-next (deadlineOf (a .h)) b (a .deadlines .now) (l .deadlines) (a .count) job at (c .size .result) _ (take (length b - at) (drop at b)) t (part-rest at b) s (c .before .before .before .deadline .ensures) (l .inv .4), column-next volumeOf b (a .volumes .now) (l .volumes) (a .count) job at (c .size .result) _ (take (length b - at) (drop at b)) t (part-rest at b) s (c .before .before .volume .ensures) (l .inv .5))
+loop-again c =
+    let a = c .before .before .before .before .before .before .before .before .before .before .before .before .args in
+    let b = a .bytes .now in
+    let l = c .before .before .before .before .before .before .before .loop in
+    let at = l .at in
+    let job = l .job in
+    let t = c .before .before .before .before .before .before .loop-test .taken in
+    let s = sized (take (length b - at) (drop at b)) (c .before .byte .result) (c .size .result) (c .before .byte .ensures) (c .size .ensures) in
+    let w = within (a .h) (length b) b job at (c .size .result) (take (length b - at) (drop at b)) (l .inv .0) (part-rest at b) s (passed-here (a .h) (length b) b (a .count) job at (take (length b - at) (drop at b)) t (part-rest at b) (l .inv .2)) in
+    (w, search needs, passed-next (a .h) (length b) b (a .count) job at (c .size .result) (take (length b - at) (drop at b)) t (part-rest at b) s (l .inv .2), column-next releaseOf b (a .releases .now) (l .releases) (a .count) job at (c .size .result) _ (take (length b - at) (drop at b)) t (part-rest at b) s (c .before .before .before .before .release .ensures) (l .inv .3), column-next (deadlineOf (a .h)) b (a .deadlines .now) (l .deadlines) (a .count) job at (c .size .result) _ (take (length b - at) (drop at b)) t (part-rest at b) s (c .before .before .before .deadline .ensures) (l .inv .4), column-next volumeOf b (a .volumes .now) (l .volumes) (a .count) job at (c .size .result) _ (take (length b - at) (drop at b)) t (part-rest at b) s (c .before .before .volume .ensures) (l .inv .5))
 
 same-length : tie.Need-same-length Inv-loop μ-loop
 same-length c = c .before .loop .inv .3 .same
@@ -89,7 +110,12 @@ same-length-3 : tie.Need-same-length-3 Inv-loop μ-loop
 same-length-3 c = c .before .loop .inv .5 .same
 
 returns : tie.Need-returns Inv-loop μ-loop
-returns c = let a = c .before .before .before .before .before .before .args in let b = a .bytes .now in let l = c .before .loop in let p = c .before .before .before .before .before .before .pre in record { releases = column-end releaseOf b (a .releases .now) (l .releases) (a .count) (l .job) (l .at) (c .loop-test .left) (p .releases) (l .inv .3); deadlines = column-end (deadlineOf (a .h)) b (a .deadlines .now) (l .deadlines) (a .count) (l .job) (l .at) (c .loop-test .left) (p .deadlines) (l .inv .4); volumes = column-end volumeOf b (a .volumes .now) (l .volumes) (a .count) (l .job) (l .at) (c .loop-test .left) (p .volumes) (l .inv .5) }
+returns c =
+    let a = c .before .before .before .before .before .before .args in
+    let b = a .bytes .now in
+    let l = c .before .loop in
+    let p = c .before .before .before .before .before .before .pre in
+    record { releases = column-end releaseOf b (a .releases .now) (l .releases) (a .count) (l .job) (l .at) (c .loop-test .left) (p .releases) (l .inv .3); deadlines = column-end (deadlineOf (a .h)) b (a .deadlines .now) (l .deadlines) (a .count) (l .job) (l .at) (c .loop-test .left) (p .deadlines) (l .inv .4); volumes = column-end volumeOf b (a .volumes .now) (l .volumes) (a .count) (l .job) (l .at) (c .loop-test .left) (p .volumes) (l .inv .5) }
 
 pub fill-spec : {M : Type 1} → statement M
 fill-spec =

@@ -16,7 +16,9 @@ mul-result : tie.Need-mul-result
 mul-result c = let a = c .before .before .args in omega (arith, bit-small (stands (absentDeadline (a .h)) (a .d)) _ (c .bit2 .ensures))
 
 add-result : tie.Need-add-result
-add-result c = let a = c .before .before .args in omega (arith, bit-small (stands (absentDeadline (a .h)) (a .d)) _ (c .bit2 .ensures), bit-small (stands absentRelease (a .r)) _ (c .before .bit .ensures))
+add-result c =
+    let a = c .before .before .args in
+    omega (arith, bit-small (stands (absentDeadline (a .h)) (a .d)) _ (c .bit2 .ensures), bit-small (stands absentRelease (a .r)) _ (c .before .bit .ensures))
 
 bit-requires-3 : tie.Need-bit-requires-3
 bit-requires-3 c κs = search needs
@@ -25,7 +27,9 @@ mul-result-2 : tie.Need-mul-result-2
 mul-result-2 c = let a = c .before .before .before .args in omega (arith, bit-small (stands absentVolume (a .p)) _ (c .bit3 .ensures))
 
 add-result-2 : tie.Need-add-result-2
-add-result-2 c = let a = c .before .before .before .args in omega (arith, bit-small (stands absentVolume (a .p)) _ (c .bit3 .ensures), bit-small (stands (absentDeadline (a .h)) (a .d)) _ (c .before .bit2 .ensures), bit-small (stands absentRelease (a .r)) _ (c .before .before .bit .ensures))
+add-result-2 c =
+    let a = c .before .before .before .args in
+    omega (arith, bit-small (stands absentVolume (a .p)) _ (c .bit3 .ensures), bit-small (stands (absentDeadline (a .h)) (a .d)) _ (c .before .bit2 .ensures), bit-small (stands absentRelease (a .r)) _ (c .before .before .bit .ensures))
 
 returns : tie.Need-returns
 returns c = search needs

@@ -18,7 +18,10 @@ same-length : tie.Need-same-length
 same-length c = search needs
 
 returns : tie.Need-returns
-returns c = let a = c .before .before .before .before .before .before .before .before .before .before .before .before .args in let J = jobsOf (a .h) (a .q) (a .releases .now) (a .deadlines .now) (a .volumes .now) in put-spelling J (a .out .now) (c .before .before .before .before .before .before .put-header .last .1 .1 .1 .0) _ (c .before .before .before .before .before .before .put-header .ensures) (c .before .before .put-entries .ensures)
+returns c =
+    let a = c .before .before .before .before .before .before .before .before .before .before .before .before .args in
+    let J = jobsOf (a .h) (a .q) (a .releases .now) (a .deadlines .now) (a .volumes .now) in
+    put-spelling J (a .out .now) (c .before .before .before .before .before .before .put-header .last .1 .1 .1 .0) _ (c .before .before .before .before .before .before .put-header .ensures) (c .before .before .put-entries .ensures)
 
 pub put-spec : {M : Type 1} → statement M
 put-spec =

@@ -36,7 +36,13 @@ shared-slice-read-put-entry-3 : tie.Need-shared-slice-read-put-entry-3 Inv-loop 
 shared-slice-read-put-entry-3 c = search needs
 
 put-entry-requires : tie.Need-put-entry-requires Inv-loop μ-loop
-put-entry-requires c κs = let a = c .before .before .before .before .before .before .before .before .before .before .args in let rs = a .releases .now in let ds = a .deadlines .now in let ps = a .volumes .now in let l = c .before .before .before .before .before .loop in stored-room (a .h) rs ds ps (a .out .now) (c .before .before .before .before .before .before .before .before .before .before .pre .lists) (l .job) (l .at) (l .out) (c .before .before .before .before .loop-test .taken) (l .inv .1)
+put-entry-requires c κs =
+    let a = c .before .before .before .before .before .before .before .before .before .before .args in
+    let rs = a .releases .now in
+    let ds = a .deadlines .now in
+    let ps = a .volumes .now in
+    let l = c .before .before .before .before .before .loop in
+    stored-room (a .h) rs ds ps (a .out .now) (c .before .before .before .before .before .before .before .before .before .before .pre .lists) (l .job) (l .at) (l .out) (c .before .before .before .before .loop-test .taken) (l .inv .1)
 
 add-job : tie.Need-add-job Inv-loop μ-loop
 add-job c = search needs
@@ -45,13 +51,25 @@ loop-less : tie.Need-loop-less Inv-loop μ-loop
 loop-less c = search needs
 
 loop-again : tie.Need-loop-again Inv-loop μ-loop
-loop-again c = let a = c .before .before .before .before .before .before .before .before .before .before .before .before .before .args in let rs = a .releases .now in let ds = a .deadlines .now in let ps = a .volumes .now in let l = c .before .before .before .before .before .before .before .before .loop in (search needs, stored-next (a .h) rs ds ps (a .out .now) (c .before .before .before .before .before .before .before .before .before .before .before .before .before .pre .lists) (l .job) (l .at) _ (l .out) _ (c .before .before .before .before .before .before .before .loop-test .taken) (c .before .before .put-entry .ensures) (l .inv .1))
+loop-again c =
+    let a = c .before .before .before .before .before .before .before .before .before .before .before .before .before .args in
+    let rs = a .releases .now in
+    let ds = a .deadlines .now in
+    let ps = a .volumes .now in
+    let l = c .before .before .before .before .before .before .before .before .loop in
+    (search needs, stored-next (a .h) rs ds ps (a .out .now) (c .before .before .before .before .before .before .before .before .before .before .before .before .before .pre .lists) (l .job) (l .at) _ (l .out) _ (c .before .before .before .before .before .before .before .loop-test .taken) (c .before .before .put-entry .ensures) (l .inv .1))
 
 same-length : tie.Need-same-length Inv-loop μ-loop
 same-length c = c .before .loop .inv .1 .same
 
 returns : tie.Need-returns Inv-loop μ-loop
-returns c = let a = c .before .before .before .before .before .before .args in let rs = a .releases .now in let ds = a .deadlines .now in let ps = a .volumes .now in let l = c .before .loop in stored-end (a .h) rs ds ps (a .out .now) (c .before .before .before .before .before .before .pre .lists) (l .job) (l .at) (l .out) (c .loop-test .left) (l .inv .1)
+returns c =
+    let a = c .before .before .before .before .before .before .args in
+    let rs = a .releases .now in
+    let ds = a .deadlines .now in
+    let ps = a .volumes .now in
+    let l = c .before .loop in
+    stored-end (a .h) rs ds ps (a .out .now) (c .before .before .before .before .before .before .pre .lists) (l .job) (l .at) (l .out) (c .loop-test .left) (l .inv .1)
 
 pub put-entries-spec : {M : Type 1} → statement M
 put-entries-spec =

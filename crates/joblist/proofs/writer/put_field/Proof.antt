@@ -25,7 +25,10 @@ add-out : tie.Need-add-out
 add-out c = search needs
 
 slice-write-out-2 : tie.Need-slice-write-out-2
-slice-write-out-2 c = let a = c .before .args in let q : a .at + length (spelled (a .x)) ≤ length (a .out .now) = rw (ne-eqb (a .x) (a .absent) (c .if1 .left)) at (c .before .pre) in simp length-set (omega arith)
+slice-write-out-2 c =
+    let a = c .before .args in
+    let q : a .at + length (spelled (a .x)) ≤ length (a .out .now) = rw (ne-eqb (a .x) (a .absent) (c .if1 .left)) at (c .before .pre) in
+    simp length-set (omega arith)
 
 add-result : tie.Need-add-result
 add-result c = search needs

@@ -41,7 +41,13 @@ entry-size-requires : tie.Need-entry-size-requires Inv-loop μ-loop
 entry-size-requires c κs = search needs
 
 add-n : tie.Need-add-n Inv-loop μ-loop
-add-n c = let a = c .before .before .before .before .before .before .before .before .before .args in let rs = a .releases .now in let ds = a .deadlines .now in let ps = a .volumes .now in let l = c .before .before .before .before .before .loop in omega (arith, l .inv .1, c .entry-size .ensures, entry-small (a .h) (getD rs (l .job) 0) (getD ds (l .job) 0) (getD ps (l .job) 0), c .before .before .before .before .before .before .before .before .before .pre .few)
+add-n c =
+    let a = c .before .before .before .before .before .before .before .before .before .args in
+    let rs = a .releases .now in
+    let ds = a .deadlines .now in
+    let ps = a .volumes .now in
+    let l = c .before .before .before .before .before .loop in
+    omega (arith, l .inv .1, c .entry-size .ensures, entry-small (a .h) (getD rs (l .job) 0) (getD ds (l .job) 0) (getD ps (l .job) 0), c .before .before .before .before .before .before .before .before .before .pre .few)
 
 add-job : tie.Need-add-job Inv-loop μ-loop
 add-job c = search needs
@@ -50,10 +56,22 @@ loop-less : tie.Need-loop-less Inv-loop μ-loop
 loop-less c = search needs
 
 loop-again : tie.Need-loop-again Inv-loop μ-loop
-loop-again c = let a = c .before .before .before .before .before .before .before .before .before .args in let rs = a .releases .now in let ds = a .deadlines .now in let ps = a .volumes .now in let l = c .before .before .before .before .before .loop in (search needs, omega (arith, l .inv .1, c .entry-size .ensures, entry-small (a .h) (getD rs (l .job) 0) (getD ds (l .job) 0) (getD ps (l .job) 0)), length-turn (a .h) rs ds ps (c .before .before .before .before .before .before .before .before .before .pre) _ (l .n) _ (l .job) (c .before .before .before .before .loop-test .taken) (c .entry-size .ensures) (l .inv .2))
+loop-again c =
+    let a = c .before .before .before .before .before .before .before .before .before .args in
+    let rs = a .releases .now in
+    let ds = a .deadlines .now in
+    let ps = a .volumes .now in
+    let l = c .before .before .before .before .before .loop in
+    (search needs, omega (arith, l .inv .1, c .entry-size .ensures, entry-small (a .h) (getD rs (l .job) 0) (getD ds (l .job) 0) (getD ps (l .job) 0)), length-turn (a .h) rs ds ps (c .before .before .before .before .before .before .before .before .before .pre) _ (l .n) _ (l .job) (c .before .before .before .before .loop-test .taken) (c .entry-size .ensures) (l .inv .2))
 
 returns : tie.Need-returns Inv-loop μ-loop
-returns c = let a = c .before .before .before .before .before .args in let rs = a .releases .now in let ds = a .deadlines .now in let ps = a .volumes .now in let l = c .before .loop in length-end (a .h) rs ds ps (c .before .before .before .before .before .pre) _ (l .n) (l .job) (c .loop-test .left) (l .inv .2)
+returns c =
+    let a = c .before .before .before .before .before .args in
+    let rs = a .releases .now in
+    let ds = a .deadlines .now in
+    let ps = a .volumes .now in
+    let l = c .before .loop in
+    length-end (a .h) rs ds ps (c .before .before .before .before .before .pre) _ (l .n) (l .job) (c .loop-test .left) (l .inv .2)
 
 pub size-spec : {M : Type 1} → statement M
 size-spec =
