@@ -17,7 +17,7 @@ use Rattle.sched.specs.Checks.Laws.{refused-not-passed}
 use Rattle.sleep_plan.specs.Block.{blockLength, answered, numberIn}
 use Rattle.sleep_plan.specs.Block.Laws.{one-number}
 use Rattle.sleep_plan.specs.Puts.{Puts, PutsOutcome}
-use Rattle.sleep_plan.specs.Entry.{Answer, listCheck, Entry, inBlock, entry}
+use Rattle.sleep_plan.specs.Entry.{Answer, bytesCheck, Entry, inBlock, entry}
 use Rattle.sleep_plan.specs.Entry.Places.{Within, read-within}
 use Rattle.joblist.specs.Bytes.{spelling}
 use Rattle.joblist.specs.Laws.Fields.{AreBytes}
@@ -28,7 +28,7 @@ use Rattle.sleep_plan.specs.Promises.{AgainstRivals, Promise}
 use Rattle.sleep_plan.proofs.Answers.{plan-fits, outcome-numbers, against}
 
 -- the bytes of a list that passes the list checks are read, to that list
-spelled-reads : (J : Jobs) (list : List ℕ) → Passes J → list ≡ spelling J → listCheck list ≡ Passed
+spelled-reads : (J : Jobs) (list : List ℕ) → Passes J → list ≡ spelling J → bytesCheck list ≡ Passed
 spelled-reads J list p e =
     rw e (read-passes (spelling J) 64 64 64 (spelling-good J 64 64 64 p (record { releases = p .few; deadlines = p .few; volumes = p .few })))
 
@@ -49,7 +49,7 @@ promise-short list table block l =
     }
 
 -- a list that the reader refuses
-pub promise-refused : (list table block block′ : List ℕ) (n : ℕ) (r : Refusal) → blockLength ≤ length block → listCheck list ≡ Faulty r → Puts (number r) (place r ∷ []) block n block′ → Promise list table block n table block′
+pub promise-refused : (list table block block′ : List ℕ) (n : ℕ) (r : Refusal) → blockLength ≤ length block → bytesCheck list ≡ Faulty r → Puts (number r) (place r ∷ []) block n block′ → Promise list table block n table block′
 promise-refused list table block block′ n r l f puts =
     let a = answer-refused list table r f in
     let e = sym (entry-answers list table block l ∙ ap (λ (x : Answer). inBlock x block) a) in
@@ -67,7 +67,7 @@ promise-refused list table block block′ n r l f puts =
     }
 
 -- a list that was read; J is what the planner was handed
-pub promise-planned : (list table block table′ block′ : List ℕ) (n : ℕ) (o : Outcome) (J : Jobs) → AreBytes list → blockLength ≤ length block → listCheck list ≡ Passed → J ≡ listOf list → o ≡ plan J table .answer → table′ ≡ plan J table .table → (Passes J → J .horizon ≤ length table → demands.AgainstRivals J o (take (J .horizon) table′)) → PutsOutcome o block n block′ → Promise list table block n table′ block′
+pub promise-planned : (list table block table′ block′ : List ℕ) (n : ℕ) (o : Outcome) (J : Jobs) → AreBytes list → blockLength ≤ length block → bytesCheck list ≡ Passed → J ≡ listOf list → o ≡ plan J table .answer → table′ ≡ plan J table .table → (Passes J → J .horizon ≤ length table → demands.AgainstRivals J o (take (J .horizon) table′)) → PutsOutcome o block n block′ → Promise list table block n table′ block′
 promise-planned list table block table′ block′ n o J small l p same told kept rivals puts =
     let K = listOf list in
     let passes = list-passes list 64 64 64 small (read-passed list 64 64 64 p) in

@@ -28,11 +28,11 @@ afterRead (Faulty r) list table = record { number = number r; values = place r �
 afterRead Passed list table = answerOf (plan (listOf list) table)
 
 -- the entry lends the reader three lists of 64, so it can read every list
-abbrev pub listCheck : List ℕ → Checked
-listCheck list = readCheck list 64 64 64
+abbrev pub bytesCheck : List ℕ → Checked
+bytesCheck list = readCheck list 64 64 64
 
 unfoldable pub answerTo : List ℕ → List ℕ → Answer
-answerTo list table = afterRead (listCheck list) list table
+answerTo list table = afterRead (bytesCheck list) list table
 
 -- the number returned, and the two lent buffers afterwards
 pub record Entry : Type 0 where

@@ -4,17 +4,17 @@ use mathlib.Core.Path.{_≡_}
 use mathlib.Core.List.{List}
 use lib.ListN.{length, getD, take}
 use Rattle.sched.specs.Jobs.{Jobs, totalVolume}
+use Rattle.sched.specs.Checks.{Passes}
 use Rattle.sched.specs.Slots.{awakeOf}
 use Rattle.sched.specs.Energy.{energy}
 use Rattle.sched.specs.Feasible.{Feasible}
 use Rattle.sched.specs.declared.Checked.the-variants.{Passed}
 use Rattle.edf.specs.Overload.{Overfull}
 use Rattle.demands.specs.Rivals.{NoSchedule}
-use Rattle.sched.specs.Checks.{Passes}
 use Rattle.joblist.specs.Bytes.{spelling}
 use Rattle.joblist.specs.Reading.{listOf}
 use Rattle.sleep_plan.specs.Block.{blockLength, numberIn}
-use Rattle.sleep_plan.specs.Entry.{listCheck, answerTo, entry}
+use Rattle.sleep_plan.specs.Entry.{bytesCheck, answerTo, entry}
 
 -- a feasible schedule is handed over, its energy reported as the block's first number, and that is at most a rival's plus the sum of all
 -- volumes
@@ -40,4 +40,4 @@ pub record Promise (list lent-table lent-block : List ℕ) (r : ℕ) (table′ b
   -- demand 3: the bytes spell a list that passes the list checks, the table is long enough, the block has 16 bytes or more
   pub rivals : (J : Jobs) → Passes J → list ≡ spelling J → J .horizon ≤ length lent-table → blockLength ≤ length lent-block → AgainstRivals J r (take (J .horizon) table′) block′
   -- the same for bytes that the reader takes, which spell the list that it reads
-  pub rivals-of-bytes : listCheck list ≡ Passed → listOf list .horizon ≤ length lent-table → blockLength ≤ length lent-block → AgainstRivals (listOf list) r (take (listOf list .horizon) table′) block′
+  pub rivals-of-bytes : bytesCheck list ≡ Passed → listOf list .horizon ≤ length lent-table → blockLength ≤ length lent-block → AgainstRivals (listOf list) r (take (listOf list .horizon) table′) block′

@@ -11,7 +11,7 @@ use Rattle.sched.specs.declared.Checked.{Checked}
 use Rattle.sched.specs.declared.Checked.the-variants.{Passed, Refused as Faulty}
 use Rattle.joblist.specs.Reading.{listOf}
 use Rattle.sleep_plan.specs.Block.{blockLength}
-use Rattle.sleep_plan.specs.Entry.{answerOf, afterRead, listCheck, answerTo, inBlock, entry}
+use Rattle.sleep_plan.specs.Entry.{answerOf, afterRead, bytesCheck, answerTo, inBlock, entry}
 
 -- the entry by its two tests
 pub entry-short : (list table block : List ℕ) → length block < blockLength → entry list table block ≡ record { number = 17; table = table; block = block }
@@ -22,10 +22,10 @@ pub entry-answers : (list table block : List ℕ) → blockLength ≤ length blo
 unfolding entry
 entry-answers list table block l = rw (le-ltb (length block) blockLength l, entry)
 
-pub answer-refused : (list table : List ℕ) (r : Refusal) → listCheck list ≡ Faulty r → answerTo list table ≡ record { number = number r; values = place r ∷ []; table = table }
+pub answer-refused : (list table : List ℕ) (r : Refusal) → bytesCheck list ≡ Faulty r → answerTo list table ≡ record { number = number r; values = place r ∷ []; table = table }
 unfolding answerTo
 answer-refused list table r e = ap (λ (c : Checked). afterRead c list table) e
 
-pub answer-planned : (list table : List ℕ) → listCheck list ≡ Passed → answerTo list table ≡ answerOf (plan (listOf list) table)
+pub answer-planned : (list table : List ℕ) → bytesCheck list ≡ Passed → answerTo list table ≡ answerOf (plan (listOf list) table)
 unfolding answerTo
 answer-planned list table e = ap (λ (c : Checked). afterRead c list table) e
