@@ -1,8 +1,8 @@
 /* sleep_plan.h - a sleep plan for one processor, from a list of jobs.
  *
  * Time is cut into H slots, numbered 0 to H-1. In each slot the processor is asleep, awake and idle, or runs one job. A job has a release
- * r, a deadline d and a volume p: it must run in exactly p of the slots r to d-1, in one piece or in several. A run is a longest stretch
- * of awake slots; before slot 0 the processor sleeps. A plan costs 1 for each awake slot and the wake cost q for each run. The planner
+ * r, a deadline d and a volume p: it must run in exactly p of the slots r to d-1, in one piece or in several. Awake slots in a row, as many
+ * as there are, make a run; the processor comes to slot 0 asleep. A plan costs 1 for each awake slot and the wake cost q for each run. The planner
  * gives a plan that serves every job, at a cost of at most the cheapest possible plan's plus the sum of all volumes, or says that no plan
  * exists.
  *
@@ -69,8 +69,8 @@ extern "C" {
  * bytes behind the last job (16); the table's length (17); overload (18).
  *
  * The caller's duty: each buffer is valid for its length (list for reading, table and block for writing) until the call returns, nobody
- * else writes to them meanwhile, and no two of them share a byte. If buffers do share bytes, the call still touches nothing outside the
- * three of them and still returns, but what it returns and what the three hold afterwards is not specified.
+ * else writes to them meanwhile, and no two of them share a byte. If buffers do share bytes, nothing is promised of what comes back; as
+ * built and tested, such a call touches nothing outside the three buffers and returns.
  *
  * The bytes of a list:
  *

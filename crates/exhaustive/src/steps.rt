@@ -20,7 +20,7 @@ fn next_to(set: u32, t: u32) -> bool
     0 < t && bit(set, t - 1) == 1 || bit(set, t + 1) == 1
 }
 
-// The least sleeping slot that touches the set and helps, or 8 where there is none.
+// The lowest slot that step 3 would wake in this set, or 8 where there is none.
 fn least_helping(l: Small, set: u32) -> u32 {
     let now = workable(l, set);
     for t in 0..8 {

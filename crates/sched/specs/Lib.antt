@@ -1,4 +1,4 @@
--- 01 in formulas. Each file renders one concept; files named Laws hold what is proved of it.
+-- The words, checks and steps of 01 in formulas. Each file renders one concept; files named Laws hold what is proved of it.
 pub mod Bounded
 pub mod Jobs
 pub mod Refusals

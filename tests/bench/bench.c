@@ -1,0 +1,123 @@
+/* Times of sleep_plan beside three other implementations, on the same lists in one process; their tables are compared. */
+#define _GNU_SOURCE
+#include "kinds.h"
+#include "sleep_plan.h"
+#include <pthread.h>
+#include <stdio.h>
+#include <stdlib.h>
+#include <string.h>
+#include <time.h>
+
+enum { FAMILIES = 10, SIZES = 4, STACK = 1 << 20 };
+static const char *family_name[FAMILIES] = {"one", "nested", "tiled", "loose", "random", "no job", "volume 1", "overload", "q 0", "q 65535"};
+static const int sizes[SIZES] = {512, 1024, 2048, 4096};
+
+static uint32_t seed;
+static int below(int n) { seed = seed * 1664525u + 1013904223u; return (int)((seed >> 8) % (uint32_t)n); }
+
+static void make(struct list *l, int f, int h) {
+  seed = 7;
+  memset(l, 0, sizeof *l);
+  l->h = h;
+  l->q = f == 8 ? 0 : f == 9 ? 65535 : 3;
+  l->n = f == 0 ? 1 : f == 5 ? 0 : MAX_JOBS;
+  for (int i = 0; i < l->n; i++) {
+    int r, d, p;
+    if (f == 0) { r = 0; d = h; p = h; }
+    else if (f == 1) { r = i * h / 160; d = h - i * h / 160; p = h / 80; }
+    else if (f == 2) { r = i * (h / 64); d = r + h / 64; p = h / 128; }
+    else if (f == 3) { r = below(h / 4); d = h - below(h / 4); p = h / 70; }
+    else { r = below(h); d = r + 1 + below(h - r); p = f == 6 ? 1 : 1 + below((d - r + 39) / 40); }
+    l->r[i] = (uint16_t)r; l->d[i] = (uint16_t)d; l->p[i] = (uint16_t)p;
+  }
+  if (f == 7) { l->r[63] = 0; l->d[63] = (uint16_t)h; l->p[63] = (uint16_t)h; }
+}
+
+static size_t spell(const struct list *l, uint8_t *b) {
+  size_t n = 5;
+  b[0] = (uint8_t)l->h; b[1] = (uint8_t)(l->h >> 8); b[2] = (uint8_t)l->q; b[3] = (uint8_t)(l->q >> 8); b[4] = (uint8_t)l->n;
+  for (int j = 0; j < l->n; j++) {
+    int value[3] = {l->r[j], l->d[j], l->p[j]}, absent[3] = {0, l->h, 1};
+    size_t map = n++;
+    b[map] = 0;
+    for (int f = 0; f < 3; f++) if (value[f] != absent[f]) { b[map] |= (uint8_t)(1 << f); b[n++] = (uint8_t)value[f]; b[n++] = (uint8_t)(value[f] >> 8); }
+  }
+  return n;
+}
+
+static uint8_t bytes[512], ours[MAX_H], other[MAX_H], scratch[MAX_H], block[16];
+static size_t bytes_len;
+static int from, to;
+static struct list list;
+
+static void call_ours(void) { sleep_plan(bytes, bytes_len, ours, sizeof ours, block, sizeof block); }
+static void call_best(void) { best_plan(bytes, bytes_len, other, &from, &to); }
+static void call_plain(void) { plain_plan(bytes, bytes_len, scratch, &from, &to); }
+static void call_limit(void) { limit_fill(&list, ours, scratch); }
+
+static double now(void) { struct timespec t; clock_gettime(CLOCK_MONOTONIC, &t); return (double)t.tv_sec * 1e6 + (double)t.tv_nsec / 1e3; }
+
+/* The least of several measurements, in microseconds a call. */
+static double measure(void (*call)(void), int repeats) {
+  double least = 1e18;
+  for (int round = 0; round < 5; round++) {
+    double start = now();
+    for (int i = 0; i < repeats; i++) call();
+    double took = (now() - start) / repeats;
+    if (took < least) least = took;
+  }
+  return least;
+}
+
+/* The deepest stack that a call touches: it runs on a painted stack of its own. */
+static void *on_stack(void *unused) { (void)unused; call_ours(); return NULL; }
+static void *nothing(void *unused) { (void)unused; return NULL; }
+
+static size_t touched(void *(*what)(void *)) {
+  unsigned char *stack = aligned_alloc(4096, STACK);
+  pthread_attr_t attr;
+  pthread_t thread;
+  size_t i = 0;
+  memset(stack, 0xA5, STACK);
+  pthread_attr_init(&attr);
+  pthread_attr_setstack(&attr, stack, STACK);
+  pthread_create(&thread, &attr, what, NULL);
+  pthread_join(thread, NULL);
+  while (i < STACK && stack[i] == 0xA5) i++;
+  free(stack);
+  return STACK - i;
+}
+
+int main(int argc, char **argv) {
+  if (argc > 1) { /* one call on a family at 4,096 slots, for a counter of instructions */
+    make(&list, atoi(argv[1]), 4096);
+    bytes_len = spell(&list, bytes);
+    call_ours();
+    return 0;
+  }
+  size_t deepest = 0;
+  printf("%-9s %5s %9s %9s %9s %9s %7s %7s\n", "family", "H", "limit", "best", "plain", "ours", "/limit", "/best");
+  for (int f = 0; f < FAMILIES; f++) {
+    double at_first = 0;
+    for (int s = 0; s < SIZES; s++) {
+      make(&list, f, sizes[s]);
+      bytes_len = spell(&list, bytes);
+      memset(ours, 255, sizeof ours);
+      uint32_t number = sleep_plan(bytes, bytes_len, ours, sizeof ours, block, sizeof block);
+      int best = best_plan(bytes, bytes_len, other, &from, &to), plain = plain_plan(bytes, bytes_len, scratch, &from, &to);
+      int shown = number != 18 || (block[0] + 256 * block[1] == from && block[4] + 256 * block[5] == to);
+      if ((int)number != best || best != plain || !shown || (number == 0 && (memcmp(ours, other, (size_t)list.h) || memcmp(ours, scratch, (size_t)list.h)))) {
+        printf("%s at %d: tables differ\n", family_name[f], list.h);
+        return 1;
+      }
+      double b = measure(call_best, 40), p = measure(call_plain, 1), o = measure(call_ours, 40), l = measure(call_limit, 40);
+      if (s == 0) at_first = o;
+      printf("%-9s %5d %9.1f %9.1f %9.1f %9.1f %7.1f %7.2f\n", family_name[f], list.h, l, b, p, o, o / l, o / b);
+      if (s == SIZES - 1) printf("%-9s       grows %.1f-fold from %d to %d slots\n", "", o / at_first, sizes[0], sizes[SIZES - 1]);
+      size_t depth = touched(on_stack) - touched(nothing);
+      if (depth > deepest) deepest = depth;
+    }
+  }
+  printf("deepest stack: %zu bytes\n", deepest);
+  return 0;
+}
