@@ -17,12 +17,10 @@ pub mod Served
 pub mod Alike
 pub mod Open
 pub mod Ahead
-pub mod Starting
 pub mod Keeping
 pub mod Tests
 pub mod Storing
 pub mod Updates
-pub mod Changing
 pub mod Bounds
 pub mod Missing
 
