@@ -14,7 +14,8 @@ void limit_fill(const struct list *l, const uint8_t *awake, uint8_t *table);
 /* From list bytes, with all checks: 0, or a refusal's number. */
 int read_list(const uint8_t *bytes, size_t len, struct list *l);
 
-/* All steps as fast as we could write them, and all steps with a run for each slot that is tried; both from list bytes. 0 planned, else the
+/* All steps by the fast methods, a straightforward attempt that was not tuned by measurement, and all steps with a run for each slot that is
+ * tried; both from list bytes. 0 planned, else the
  * refusal's number or 18 with the interval. */
 int best_plan(const uint8_t *bytes, size_t len, uint8_t *table, int *a, int *b);
 int plain_plan(const uint8_t *bytes, size_t len, uint8_t *table, int *a, int *b);

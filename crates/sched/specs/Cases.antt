@@ -1,5 +1,5 @@
 -- 01, "Plans worked by hand": the starred plans, in one table, and the one claim that the definitions give just these, so that a wrong edit
--- of a definition is refused here. What 01 does not name (some skeletons and orders) was worked out by hand.
+-- of a definition is refused here. What 01 does not name (some skeletons, orders and tables) was computed by a separate search.
 use Prim.Native.Nat.{ℕ, zero, suc}
 use mathlib.Core.Path.{_≡_, refl}
 use mathlib.Core.Bool.{Bool, true, false}
