@@ -1,5 +1,5 @@
-// Tables and records on chosen inputs: the third plan that 01 works by hand, each refusal of the judge and of the record writer at its first
-// and last place, bytes behind the horizon, and horizons around the ends of a map byte and of 64 slots.
+// Tables and records on chosen inputs: the third plan that 01 works by hand, the plan of docs/BYTES.md, each refusal of the judge and of the
+// record writer at its first and last place, bytes behind the horizon, and horizons around the ends of a map byte and of 64 slots.
 use judge::Judged;
 use libc::STDOUT_FILENO;
 use record::RecordWritten;
@@ -182,14 +182,37 @@ fn write_record(h: u16, t: &[u8], len: usize, out: &mut [u8], room: usize) {
     }
 }
 
+// Judges a plan, and shows its record and what is left of the room for it.
+fn show_plan(
+    h: u16,
+    q: u16,
+    rs: &[u16],
+    ds: &[u16],
+    ps: &[u16],
+    t: &[u8],
+    out: &mut [u8],
+    room: usize,
+) {
+    show_judged(judge::judge(h, q, rs, ds, ps, t));
+    write_record(h, t, t.len(), out, room);
+    show_bytes(first_bytes(out, room));
+}
+
 fn worked_case(out: &mut [u8]) {
     let rs = [0u16, 8, 0];
     let ds = [3u16, 10, 10];
     let ps = [1u16, 2, 5];
     let t = [0u8, 2, 2, 2, 2, 2, 255, 255, 1, 1];
-    show_judged(judge::judge(10, 3, &rs, &ds, &ps, &t));
-    write_record(10, &t, 10, out, 14);
-    show_bytes(first_bytes(out, 14));
+    show_plan(10, 3, &rs, &ds, &ps, &t, out, 14);
+}
+
+// The plan of docs/BYTES.md: asleep, idle and three jobs.
+fn page_case(out: &mut [u8]) {
+    let rs = [3u16, 9, 0];
+    let ds = [7u16, 12, 12];
+    let ps = [1u16, 2, 1];
+    let t = [255u8, 255, 255, 255, 255, 255, 0, 2, 254, 1, 1, 255];
+    show_plan(12, 300, &rs, &ds, &ps, &t, out, 11);
 }
 
 // Puts one byte more into t, and judges it against n equal jobs.
@@ -472,6 +495,7 @@ fn main() {
     let mut t = table();
     let mut out = output();
     worked_case(&mut out);
+    page_case(&mut out);
     list_faults(&t);
     job_faults(&t);
     judge_faults(&mut t);
