@@ -10,13 +10,13 @@ static int cannot_read(const char *file) {
   return 0;
 }
 
-/* Bytes are read to one past the longest list; what follows cannot change the answer. */
+/* Bytes are read beyond the end of the longest list; what follows cannot change the answer. */
 static int read_source(FILE *in, struct source *s) {
   if (s->form == TEXT) {
     if (!read_text(in, s->file, &s->list)) return 0;
     s->length = list_to_bytes(&s->list, s->bytes);
   } else {
-    s->length = fread(s->bytes, 1, SLEEP_PLAN_LIST_MAX + 1, in);
+    s->length = fread(s->bytes, 1, sizeof s->bytes, in);
     list_from_bytes(s->bytes, s->length, &s->list);
   }
   return 1;
