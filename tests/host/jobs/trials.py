@@ -12,14 +12,14 @@ SMALL, LARGE, TEXTS, BYTES = 300, 12, 400, 200
 JOBS, SANITIZED, TABLE = sys.argv[1:4]
 
 
-def run(program, *arguments, stdin):
-    done = subprocess.run([program, *arguments], input=stdin, capture_output=True)
+def run(*command, stdin):
+    done = subprocess.run(command, input=stdin, capture_output=True)
     return done.returncode, done.stdout, done.stderr.decode()
 
 
-def fine(*arguments, stdin, codes=(0,)):
-    code, out, err = run(JOBS, *arguments, stdin=stdin)
-    need(code in codes and not err, f"{arguments}: exit {code}: {err}")
+def fine(*command, stdin, code=0):
+    got, out, err = run(*command, stdin=stdin)
+    need(got == code and not err, f"{command}: exit {got}: {err}")
     return out
 
 
@@ -27,22 +27,20 @@ def ask(data):
     return [int(word) for word in run(TABLE, stdin=data)[1].split()]
 
 
-def try_list(rng, slots, wake, jobs):
-    """A list through all commands. Gives what sleep_plan returned."""
-    text, data = to_text(rng, slots, wake, jobs).encode(), to_bytes(slots, wake, jobs)
-    need(fine("bytes", stdin=text) == data, "the bytes of a text")
-    back = fine("text", stdin=data)
-    need(fine("bytes", stdin=back) == data, "bytes to text to bytes")
-    need(fine("text", stdin=fine("bytes", stdin=back)) == back, "text to bytes to text")
-    answer = Answer(slots, wake, jobs, ask(data))
-    width = rng.choice([40, 60, 80, 80, 132, 5000])
-    codes = (0,) if answer.planned else (1,)
-    check_timeline(answer, fine("show", "--width", str(width), stdin=text, codes=codes).decode(), width)
-    check_svg(answer, fine("svg", stdin=text, codes=codes).decode())
-    nameless = Answer(slots, wake, [job[:3] + ("",) for job in jobs], [answer.returned, *answer.numbers, *answer.table])
-    check_timeline(nameless, fine("show", "--bytes", stdin=data, codes=codes).decode())
-    check_svg(nameless, fine("svg", "--bytes", stdin=data, codes=codes).decode())
-    return answer.returned
+def try_list(rng, jobs, slots, wake, entries):
+    """A list through all commands of the tool. Gives what sleep_plan returned."""
+    text, data = to_text(rng, slots, wake, entries).encode(), to_bytes(slots, wake, entries)
+    need(fine(jobs, "bytes", stdin=text) == data, "the bytes of a text")
+    back = fine(jobs, "text", stdin=data)
+    need(fine(jobs, "bytes", stdin=back) == data, "bytes to text to bytes")
+    said = ask(data)
+    answer, code, width = Answer(slots, wake, entries, said), 0 if said[0] == 0 else 1, rng.choice([40, 60, 80, 80, 132, 5000])
+    check_timeline(answer, fine(jobs, "show", "--width", str(width), stdin=text, code=code).decode(), width)
+    check_svg(answer, fine(jobs, "svg", stdin=text, code=code).decode())
+    nameless = Answer(slots, wake, [entry[:3] + ("",) for entry in entries], said)
+    check_timeline(nameless, fine(jobs, "show", "--bytes", stdin=data, code=code).decode())
+    check_svg(nameless, fine(jobs, "svg", "--bytes", stdin=data, code=code).decode())
+    return said[0]
 
 
 def damaged(rng, data):
@@ -86,8 +84,8 @@ def try_damaged_bytes(data):
 
 def main():
     rng = random.Random(SEED)
-    answers = [try_list(rng, *random_list(rng, rng.randint(1, 150), 8)) for _ in range(SMALL)]
-    answers += [try_list(rng, *random_list(rng, rng.choice([1025, 3000, 4096]), 64)) for _ in range(LARGE)]
+    answers = [try_list(rng, JOBS, *random_list(rng, rng.randint(1, 150), 8)) for _ in range(SMALL)]
+    answers += [try_list(rng, SANITIZED, *random_list(rng, rng.choice([1025, 3000, 4096]), 64)) for _ in range(LARGE)]
     exits = [0, 0, 0]
     for _ in range(TEXTS):
         text = damaged(rng, to_text(rng, *random_list(rng, rng.randint(1, 150), 8)).encode())
