@@ -1,5 +1,6 @@
-# `make run` shows the product at work on a worked list; `make test` passes all tests; `make bench` measures.
-.PHONY: run test bench
+# `make run` shows the product at work on a worked list; `make test` passes all tests; `make bench` measures; `make robust` tries a million
+# lists from outside (SEED, COUNT and FIRST can be set).
+.PHONY: run test bench robust
 
 run:
 	@tests/show
@@ -9,3 +10,6 @@ test:
 
 bench:
 	@tests/bench/run
+
+robust:
+	@tests/host/entry/robust

@@ -1,0 +1,33 @@
+#include "oracle.h"
+
+static uint32_t number(const uint8_t *p) { return p[0] | (uint32_t)p[1] << 8 | (uint32_t)p[2] << 16 | (uint32_t)p[3] << 24; }
+
+static const char *judge_table(const struct list *l, const uint8_t *table, const uint8_t *block) {
+  unsigned stands[JOBS] = {0};
+  uint32_t awake = 0, runs = 0;
+  for (unsigned t = 0; t < l->h; t++) {
+    unsigned x = table[t];
+    if (x == 255) continue;
+    awake++;
+    if (t == 0 || table[t - 1] == 255) runs++;
+    if (x == 254) continue;
+    if (x >= l->n) return "a table byte that means nothing";
+    if (t < l->job[x].r || t >= l->job[x].d) return "a job outside its slots";
+    stands[x]++;
+  }
+  for (unsigned j = 0; j < l->n; j++) if (stands[j] != l->job[j].p) return "a job that does not have its volume";
+  if (number(block) != awake + l->q * runs || number(block + 4) != awake || number(block + 8) != runs) return "figures that are not the table's";
+  return NULL;
+}
+
+static const char *judge_interval(const struct list *l, const uint8_t *block) {
+  uint32_t a = number(block), b = number(block + 4);
+  unsigned long volume = 0;
+  if (a >= b || b > l->h) return "no interval";
+  for (unsigned j = 0; j < l->n; j++) if (a <= l->job[j].r && l->job[j].d <= b) volume += l->job[j].p;
+  return volume > b - a ? NULL : "an interval that is not overloaded";
+}
+
+const char *judge(const struct list *l, uint32_t number, const uint8_t *table, const uint8_t *block) {
+  return number == 18 ? judge_interval(l, block) : judge_table(l, table, block);
+}
