@@ -38,7 +38,7 @@ extern unsigned long differences;
 /* If a signal ends the program, the case at hand is reported first. */
 void report_signals(void);
 
-/* A difference that hold cannot see. */
-void differs(const struct call *c, const char *what, long at, long got, long want);
+/* Counts and reports a difference, in the words of printf. */
+void differs(const struct call *c, const char *format, ...);
 
 #endif

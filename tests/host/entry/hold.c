@@ -2,6 +2,7 @@
 #include "calls.h"
 #include "sleep_plan.h"
 #include <signal.h>
+#include <stdarg.h>
 #include <stdio.h>
 #include <stdlib.h>
 #include <string.h>
@@ -12,7 +13,7 @@ unsigned long differences;
 
 static const struct call *running;
 
-/* The case, the sizes and the list in hex, for standard error: also from a signal, so without stdio. */
+/* The case, the sizes and the list in hex to standard error, in one piece. */
 static void tell(const struct call *c, const char *what) {
   static char text[2 * LIST_ROOM + 1024];
   static const char digits[] = "0123456789abcdef";
@@ -33,15 +34,23 @@ static void on_signal(int number) {
   _exit(3);
 }
 
+/* On a stack of their own, in case the call has used up its own. */
 void report_signals(void) {
+  static char room[1 << 16];
+  const stack_t stack = { .ss_sp = room, .ss_size = sizeof room };
+  const struct sigaction action = { .sa_handler = on_signal, .sa_flags = SA_ONSTACK };
   const int signals[] = { SIGSEGV, SIGBUS, SIGILL, SIGFPE, SIGABRT, SIGINT, SIGTERM };
-  for (size_t i = 0; i < sizeof signals / sizeof *signals; i++) signal(signals[i], on_signal);
+  if (sigaltstack(&stack, NULL)) { perror("signals"); exit(2); }
+  for (size_t i = 0; i < sizeof signals / sizeof *signals; i++) sigaction(signals[i], &action, NULL);
 }
 
-void differs(const struct call *c, const char *what, long at, long got, long want) {
-  char line[160];
+void differs(const struct call *c, const char *format, ...) {
+  char line[160] = "differs: ";
+  va_list rest;
   if (differences++ >= TOLD) return;
-  snprintf(line, sizeof line, "differs: %s at %ld: %ld, should be %ld", what, at, got, want);
+  va_start(rest, format);
+  vsnprintf(line + 9, sizeof line - 9, format, rest);
+  va_end(rest);
   tell(c, line);
 }
 
@@ -50,7 +59,7 @@ static void compare(const struct call *c, const char *what, struct loan got, con
   if (!got.size || !memcmp(got.whole, want, got.size)) return;
   size_t i = 0;
   while (got.whole[i] == want[i]) i++;
-  differs(c, what, (long)i - (long)got.offset, got.whole[i], want[i]);
+  differs(c, "byte %ld of the %s is %d, should be %d", (long)i - (long)got.offset, what, got.whole[i], want[i]);
 }
 
 static struct arena lists, tables, blocks;
@@ -71,16 +80,16 @@ uint32_t hold(const struct call *c, struct notes *notes) {
 
   running = c;
   uint32_t got = sleep_plan(list.at, c->list_len, table.at, c->table_len, block.at, c->block_len);
-  uint32_t want = oracle_plan(c->list, c->list_len, table_image + table.offset, c->table_len, block_image + block.offset, c->block_len, notes);
+  uint32_t want = oracle_plan(list.at, c->list_len, table_image + table.offset, c->table_len, block_image + block.offset, c->block_len, notes);
 
-  if (got != want) differs(c, "number returned", 0, got, want);
+  if (got != want) differs(c, "returned %u, should be %u", got, want);
   compare(c, "list", list, list_image);
   compare(c, "table", table, table_image);
   compare(c, "block", block, block_image);
   if (got == want && (got == 0 || got == 18)) {
-    read_list(c->list, c->list_len, &read);
+    read_list(list.at, c->list_len, &read);
     const char *wrong = judge(&read, got, table.at, block.at);
-    if (wrong) differs(c, wrong, 0, 1, 0);
+    if (wrong) differs(c, "the answer has %s", wrong);
   }
   take_back(list); take_back(table); take_back(block);
   running = NULL;

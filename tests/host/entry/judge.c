@@ -1,6 +1,9 @@
 #include "oracle.h"
 
-static uint32_t number(const uint8_t *p) { return p[0] | (uint32_t)p[1] << 8 | (uint32_t)p[2] << 16 | (uint32_t)p[3] << 24; }
+uint32_t block_number(const uint8_t *block, int i) {
+  const uint8_t *p = block + 4 * i;
+  return p[0] | (uint32_t)p[1] << 8 | (uint32_t)p[2] << 16 | (uint32_t)p[3] << 24;
+}
 
 static const char *judge_table(const struct list *l, const uint8_t *table, const uint8_t *block) {
   unsigned stands[JOBS] = {0};
@@ -16,12 +19,13 @@ static const char *judge_table(const struct list *l, const uint8_t *table, const
     stands[x]++;
   }
   for (unsigned j = 0; j < l->n; j++) if (stands[j] != l->job[j].p) return "a job that does not have its volume";
-  if (number(block) != awake + l->q * runs || number(block + 4) != awake || number(block + 8) != runs) return "figures that are not the table's";
+  if (block_number(block, 0) != awake + l->q * runs) return "an energy that is not the table's";
+  if (block_number(block, 1) != awake || block_number(block, 2) != runs) return "awake slots or runs that are not the table's";
   return NULL;
 }
 
 static const char *judge_interval(const struct list *l, const uint8_t *block) {
-  uint32_t a = number(block), b = number(block + 4);
+  uint32_t a = block_number(block, 0), b = block_number(block, 1);
   unsigned long volume = 0;
   if (a >= b || b > l->h) return "no interval";
   for (unsigned j = 0; j < l->n; j++) if (a <= l->job[j].r && l->job[j].d <= b) volume += l->job[j].p;

@@ -34,10 +34,10 @@ struct notes {
   struct spot spot;
   int h, q, n;
   int added, idle, runs;
-  int longest_path;  /* the most jobs that one slot concerned in step 3 */
-  int passed_over;   /* a sleeping slot that touches was passed over since it does not help */
-  int skeleton_tie;  /* the tie rule of step 2 decided */
-  int deadline_tie;  /* the lowest number decided in step 4 */
+  int longest_path;   /* the most jobs that one slot concerned in step 3 */
+  int passed_over;    /* a sleeping slot that touches was passed over since it does not help */
+  int skeleton_tie;   /* the tie rule of step 2 decided */
+  int deadline_tie;   /* the lowest number decided in step 4 */
   int several_starts; /* more than one start overloads the end that is shown */
 };
 
@@ -47,6 +47,9 @@ struct reading { uint32_t number, place; struct spot spot; };
 struct reading read_list(const uint8_t *bytes, size_t len, struct list *l);
 
 uint32_t oracle_plan(const uint8_t *list, size_t list_len, uint8_t *table, size_t table_len, uint8_t *block, size_t block_len, struct notes *notes);
+
+/* One of the four numbers of an answer block. */
+uint32_t block_number(const uint8_t *block, int i);
 
 /* Whether an answer 0 or 18 keeps its promise, by the definitions of feasible table, energy and overloaded interval alone, with no plan to
  * compare: NULL, or what is wrong. */

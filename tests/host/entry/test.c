@@ -11,11 +11,6 @@
 static unsigned long calls;
 static uint8_t bytes[LIST_ROOM];
 
-static uint32_t number(const uint8_t *block, int i) {
-  const uint8_t *p = block + 4 * i;
-  return p[0] | (uint32_t)p[1] << 8 | (uint32_t)p[2] << 16 | (uint32_t)p[3] << 24;
-}
-
 /* A known answer: what is returned, then the block's four numbers. */
 struct answer { uint32_t returned, block[4]; };
 #define ANSWER(returned, ...) (struct answer){ returned, { __VA_ARGS__ } }
@@ -28,9 +23,12 @@ static void expect(const char *what, const uint8_t *list, size_t len, size_t tab
   struct call c = { .list = list, .list_len = len, .table_len = table_len, .block_len = sizeof block };
   snprintf(at_hand, sizeof at_hand, "%s", what);
   uint32_t got = sleep_plan(list, len, table, table_len, block, sizeof block);
-  if (got != want.returned) differs(&c, "number returned", 0, got, want.returned);
-  for (int i = 0; i < 4; i++) if (number(block, i) != want.block[i]) differs(&c, "block number", i, number(block, i), want.block[i]);
-  for (size_t t = 0; plan && t < table_len; t++) if (table[t] != plan[t]) differs(&c, "table", (long)t, table[t], plan[t]);
+  if (got != want.returned) differs(&c, "returned %u, should be %u", got, want.returned);
+  for (int i = 0; i < 4; i++) {
+    uint32_t x = block_number(block, i);
+    if (x != want.block[i]) differs(&c, "number %d of the block is %u, should be %u", i, x, want.block[i]);
+  }
+  if (plan && memcmp(table, plan, table_len)) differs(&c, "another table");
   for (enum lie lie = FRONT; lie < NOWHERE; lie++) {
     c.list_lie = list ? lie : NOWHERE; c.table_lie = c.block_lie = lie;
     hold(&c, &notes);
@@ -130,7 +128,7 @@ static void short_buffers(void) {
         struct call c = { bytes, list_len, 1, block_len, FRONT, BACK, block_len && lie == NOWHERE ? BETWEEN : lie };
         snprintf(at_hand, sizeof at_hand, "block of %zu bytes", block_len);
         uint32_t got = hold(&c, &notes);
-        if (got != 17) differs(&c, "number returned", 0, got, 17);
+        if (got != 17) differs(&c, "returned %u, should be 17", got);
         calls++;
       }
   if (sleep_plan(NULL, 0, NULL, 0, NULL, 0) != 17 || sleep_plan(NULL, 0, NULL, 0, block, 16) != 11) {
@@ -166,10 +164,10 @@ static void shared_buffers(unsigned lists) {
     memcpy(before, a.whole, a.size);
     uint32_t got = sleep_plan(a.lent + list_at, len, a.lent + table_at, table_len, a.lent + block_at, block_len);
     calls++;
-    if (got != 0 && (got < 11 || got > 18)) differs(&c, "number returned", 0, got, 0);
+    if (got != 0 && (got < 11 || got > 18)) differs(&c, "returned %u", got);
     for (size_t k = 0; k < a.size; k++) {
       int lent = (k >= table_at && k < table_at + table_len) || (k >= block_at && k < block_at + block_len);
-      if (!lent && a.whole[k] != before[k]) { differs(&c, "a byte outside", (long)k, a.whole[k], before[k]); break; }
+      if (!lent && a.whole[k] != before[k]) { differs(&c, "a byte outside was changed"); break; }
     }
   }
 }
