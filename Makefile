@@ -1,6 +1,7 @@
 # `make run` shows the product at work on a worked list; `make test` passes all tests; `make tool` builds target/jobs, which turns job lists
-# as text into list bytes and pictures (docs/TOOL.md); `make dist` packs the part for buyers; `make bench` measures.
-.PHONY: run test tool dist bench
+# as text into list bytes and pictures (docs/TOOL.md); `make dist` packs the part for buyers; `make robust` tries a million lists from outside
+# (SEED, COUNT and FIRST can be set); `make bench` measures.
+.PHONY: run test tool dist robust bench
 
 archive := target/staticlib/libsleep_plan.a
 CC := gcc
@@ -29,3 +30,6 @@ dist:
 
 bench:
 	@tests/bench/run
+
+robust:
+	@tests/host/entry/robust
