@@ -7,6 +7,7 @@ use mathlib.Core.List.{List}
 use lib.Dec.{leb, ltb, eqb}
 use lib.ListN.{length, getD, set}
 use Rattle.edf.specs.Chain.{jobAt, endBelow}
+pub mod Turns
 
 -- what is kept of a run, by rank
 pub record RankBooks : Type 0 where
