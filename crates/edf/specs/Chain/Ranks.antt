@@ -8,6 +8,8 @@ use lib.Dec.{leb, ltb, eqb}
 use lib.ListN.{length, getD, set}
 use Rattle.edf.specs.Chain.{jobAt, endBelow}
 pub mod Turns
+pub mod Reaching
+pub mod Hops
 
 -- what is kept of a run, by rank
 pub record RankBooks : Type 0 where
