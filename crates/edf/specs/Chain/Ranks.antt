@@ -10,6 +10,8 @@ use Rattle.edf.specs.Chain.{jobAt, endBelow}
 pub mod Turns
 pub mod Reaching
 pub mod Hops
+pub mod Answer
+pub mod Agreeing
 
 -- what is kept of a run, by rank
 pub record RankBooks : Type 0 where
