@@ -12,6 +12,7 @@ pub mod Reaching
 pub mod Hops
 pub mod Answer
 pub mod Agreeing
+pub mod Start
 
 -- what is kept of a run, by rank
 pub record RankBooks : Type 0 where
