@@ -9,10 +9,13 @@ use lib.ListN.{length, getD, set}
 use Rattle.edf.specs.Chain.{jobAt, endBelow}
 pub mod Turns
 pub mod Reaching
-pub mod Hops
+pub mod OtherJobs
+pub mod Handing
+pub mod Gaining
 pub mod Answer
 pub mod Agreeing
 pub mod Start
+pub mod Theorems
 
 -- what is kept of a run, by rank
 pub record RankBooks : Type 0 where

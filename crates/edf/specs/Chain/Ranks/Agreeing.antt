@@ -14,7 +14,8 @@ use Rattle.edf.specs.Chain.Open.{opened}
 use Rattle.edf.specs.Chain.Ranks.{RankBooks, reaches, handedOn, tried, ByRank}
 use Rattle.edf.specs.Chain.Ranks.Turns.{tried-closed, tried-lost, tried-on}
 use Rattle.edf.specs.Chain.Ranks.Reaching.{reaches-open}
-use Rattle.edf.specs.Chain.Ranks.Hops.{handed-by-rank, gained-by-rank}
+use Rattle.edf.specs.Chain.Ranks.Handing.{handed-by-rank}
+use Rattle.edf.specs.Chain.Ranks.Gaining.{gained-by-rank}
 
 -- the same table, and books by rank of the others
 pub record Agreeing (J : Jobs) (order from : List ℕ) (by-job : Books) (by-rank : RankBooks) : Type 0 where
@@ -50,14 +51,14 @@ module _ {J : Jobs} {order : List ℕ} (ranks : RankedJobs J order) (lost from l
           rw (tried-lost from order table lost′ reach ends′ m k t r u, applied-lost (J .releases) (J .deadlines) order table lost ends m k t (sym same ∙ r) some)
           (record {
             same-table = refl;
-            ranked = gained-by-rank ranks b k below long t lost-long some
+            ranked = gained-by-rank ranks b lost-long long k below t some
                 (opened (J .releases) (J .deadlines) lost ends t (jobAt order k) (sym same ∙ r) .before);
           })
       go r (no f) =
           let none : getD lost (jobAt order k) 0 ≡ 0 = omega (arith, b .lost-is k below) in
           let stored = set table t (jobAt order k) in
           let given = givenUp (jobAt order k) stored ends in
-          let on = handed-by-rank ranks b k below long t table none in
+          let on = handed-by-rank ranks b long k below t table none in
           rw (
             tried-on from order table lost′ reach ends′ m k t r (omega arith),
             applied-on (J .releases) (J .deadlines) order table lost ends m k t (sym same ∙ r) none,

@@ -6,7 +6,6 @@ use mathlib.Core.List.{List}
 use native.Mathlib.Omega.{arith}
 use native.Mathlib.Decide.{decLt}
 use lib.ListN.{length, getD, set, length-set}
-use lib.Seq.{getD-set-other}
 use Rattle.sched.specs.Bounded.Laws.{by-bool}
 use Rattle.sched.specs.Jobs.{Jobs, count}
 use Rattle.edf.specs.Chain.{jobAt, RankedJobs, isOpen, gains, givenUp}
@@ -14,7 +13,8 @@ use Rattle.edf.specs.Chain.Turns.{gains-closed, gains-lost, gains-on}
 use Rattle.edf.specs.Chain.Ranks.{reaches, handedOn, Tried, tried, ByRank}
 use Rattle.edf.specs.Chain.Ranks.Turns.{tried-closed, tried-lost, tried-on}
 use Rattle.edf.specs.Chain.Ranks.Reaching.{reaches-open}
-use Rattle.edf.specs.Chain.Ranks.Hops.{other-job, handed-by-rank}
+use Rattle.edf.specs.Chain.Ranks.OtherJobs.{stored-aside}
+use Rattle.edf.specs.Chain.Ranks.Handing.{handed-by-rank}
 
 -- The ends of ranks that were asked before do not count.
 module _ (releases deadlines order lost e f : List ℕ) where
@@ -69,9 +69,9 @@ module _ {J : Jobs} {order : List ℕ} (ranks : RankedJobs J order) (lost from l
           let stored = set table t (jobAt order k) in
           let given = givenUp (jobAt order k) stored ends in
           ap (λ (x : Tried). x .helped) (tried-on from order table lost′ reach ends′ m k t r (omega arith))
-          ∙ later (getD reach k 0 - 1) stored given (handedOn order k t table reach) (rw length-set long) (handed-by-rank ranks b k below long t table none)
+          ∙ later (getD reach k 0 - 1) stored given (handedOn order k t table reach) (rw length-set long) (handed-by-rank ranks b long k below t table none)
           ∙ gains-same (J .releases) (J .deadlines) order lost given ends m (suc k) (getD reach k 0 - 1)
-          (λ i l m. getD-set-other ends (jobAt order k) (jobAt order i) _ 0 (other-job ranks i k (omega arith) below (omega arith)))
+          (λ i l m. stored-aside ranks k below ends _ i (omega arith) (omega arith))
           ∙ ap (λ (e : ℕ). gains (J .releases) (J .deadlines) order lost ends m (suc k) (e - 1)) (b .reach-end k below none)
           ∙ sym (gains-on (J .releases) (J .deadlines) order lost ends m k t (sym same ∙ r) none)
 

@@ -4,10 +4,9 @@ use mathlib.Core.Path.{_≡_, refl, _∙_}
 use mathlib.Core.Bool.{Bool, true, false, _&&_}
 use mathlib.Core.List.{List}
 use native.Mathlib.Omega.{arith}
-use borrow.Author.Tests.{ltb-true, le-leb, lt-leb, lt-ltb, le-ltb}
-use lib.Dec.{leb, ltb}
+use borrow.Author.Tests.{le-leb, lt-leb, lt-ltb, le-ltb}
+use lib.Dec.{leb}
 use lib.ListN.{getD, set}
-use Rattle.sched.specs.Bounded.Laws.{and-true}
 use Rattle.edf.specs.Chain.{jobAt}
 use Rattle.edf.specs.Chain.Ranks.{reaches, gainedAt, handedOn, Tried, tried}
 
@@ -26,9 +25,6 @@ module _ (from reach : List ℕ) (t k : ℕ) where
 
   pub reaches-if : getD from k 0 ≤ t → t < getD reach k 0 → reaches from reach t k ≡ true
   reaches-if l m = rw (le-leb (getD from k 0) t l, lt-ltb t (getD reach k 0) m)
-
-  pub reached : reaches from reach t k ≡ true → t < getD reach k 0
-  reached e = ltb-true _ _ (and-true (leb (getD from k 0) t) (ltb t (getD reach k 0)) e .1)
 
 -- The turns
 
