@@ -8,7 +8,7 @@ use borrow.Author.Tests.{le-leb, lt-leb, lt-ltb, le-ltb}
 use lib.Dec.{leb}
 use lib.ListN.{getD, set}
 use Rattle.edf.specs.Chain.{jobAt}
-use Rattle.edf.specs.Chain.Ranks.{reaches, gainedAt, handedOn, Tried, tried}
+use Rattle.edf.specs.Chain.Ranks.{reaches, gainedAt, handedOn, tried}
 
 -- The test, read as facts
 
