@@ -84,6 +84,12 @@ module _ {x first : ℕ} {from order lost₀ reach₀ ends₀ table₀ : List �
       }
 
   module _ {lost reach ends table ranks slots held : List ℕ} {noted at k : ℕ} (a : Asking x first from order lost₀ reach₀ ends₀ table₀ lost reach ends table ranks slots held noted at k) where
+    pub asking-lost-long : length lost ≡ length lost₀
+    asking-lost-long = ap (λ (l : List ℕ). length l) (a .same-lost)
+
+    pub asking-ends-long : length ends ≡ length ends₀
+    asking-ends-long = ap (λ (l : List ℕ). length l) (a .same-ends)
+
     pub asking-undoable : Undoable noted at ranks slots held reach table
     asking-undoable =
         noted-undoable (a .notes) (omega (arith, a .few, a .within, a .can .few)) (a .inside) (omega (arith, a .same-table, a .can .small))
