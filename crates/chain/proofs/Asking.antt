@@ -1,7 +1,7 @@
 -- The loop over ranks: what is left to ask gives what the whole chain does.
-use Prim.Native.Nat.{ℕ, zero, suc, _+_, _-_, _≤_, _<_}
+use Prim.Native.Nat.{ℕ, suc, _+_, _-_, _≤_, _<_}
 use mathlib.Core.Path.{_≡_, refl, ap, sym, _∙_}
-use mathlib.Core.Bool.{Bool, true, false, _&&_}
+use mathlib.Core.Bool.{true, false, true≢false, false≢true, _&&_}
 use mathlib.Core.List.{List}
 use native.Mathlib.Numerals.{add-one}
 use native.Mathlib.Decide.{ℕ-discrete}
@@ -101,12 +101,9 @@ module _ {x first : ℕ} {from order lost₀ reach₀ ends₀ table₀ : List �
         let e = (rw z at (a .rest)) ∙ tried-end from order table lost reach ends k at in
         record {
           helped-is = sym (ap (λ (o : Tried). o .helped) e);
-          booked = λ q. absurd (false-true q);
+          booked = λ q. absurd (false≢true q);
           undone = λ q. (noted-table (a .notes) reach′ table′ u, a .same-lost, noted-reach (a .notes) reach′ table′ u, a .same-ends);
         }
-      where
-        false-true : false ≡ true → ⊥
-        false-true q = let z : _≡_ {A = ℕ} 0 1 = cc in omega arith
 
     module _ (l : k < length from) where
       pub asking-in-reach : k < length reach
@@ -114,6 +111,18 @@ module _ {x first : ℕ} {from order lost₀ reach₀ ends₀ table₀ : List �
 
       pub asking-in-lost : k < length lost
       asking-in-lost = rw (a .same-lost) (omega (arith, a .can .lost-long))
+
+      pub asking-gainable : 0 < getD lost k 0 → Gainable k at order lost reach ends table
+      asking-gainable unit =
+          record {
+            in-order = omega (arith, a .can .order-long);
+            in-lost = asking-in-lost;
+            in-reach = asking-in-reach;
+            in-ends = rw (a .same-ends) (omega (arith, a .can .ends-long));
+            in-table = a .inside;
+            small = omega (arith, a .same-table, a .can .small);
+            unit = unit;
+          }
 
       skipped : reaches from reach at k ≡ false →
           Asking x first from order lost₀ reach₀ ends₀ table₀ lost reach ends table ranks slots held noted at (k + 1)
@@ -143,37 +152,21 @@ module _ {x first : ℕ} {from order lost₀ reach₀ ends₀ table₀ : List �
           open-here : reaches from reach at k ≡ true
           open-here = reached (getD from k 0) (getD reach k 0) at begun far
 
-          module _ (unit : 0 < getD lost k 0) where
-            pub asking-gainable : Gainable k at order lost reach ends table
-            asking-gainable =
-                record {
-                  in-order = omega (arith, a .can .order-long);
-                  in-lost = asking-in-lost;
-                  in-reach = asking-in-reach;
-                  in-ends = rw (a .same-ends) (omega (arith, a .can .ends-long));
-                  in-table = a .inside;
-                  small = omega (arith, a .same-table, a .can .small);
-                  unit = unit;
-                }
-
-            pub asking-gained : (lost′ reach′ ends′ table′ : List ℕ) → Booked (gainedAt order k at table lost reach ends) table′ lost′ reach′ ends′ →
-                Attempted x first from order lost₀ reach₀ ends₀ table₀ true lost′ reach′ ends′ table′
-            asking-gained lost′ reach′ ends′ table′ b =
-                let e = (rw (turns-left (length from) k l) at (a .rest)) ∙ tried-lost from order table lost reach ends k at (length from - suc k) open-here unit in
-                record {
-                  helped-is = sym (ap (λ (o : Tried). o .helped) e);
-                  booked = λ q. ap-booked (ap (λ (o : Tried). o .books) e);
-                  undone = λ q. absurd (true-false q);
-                }
-              where
-                true-false : true ≡ false → ⊥
-                true-false q = let z : _≡_ {A = ℕ} 0 1 = cc in omega arith
-
-                ap-booked : {books : RankBooks} → books ≡ gainedAt order k at table lost reach ends → Booked books table′ lost′ reach′ ends′
-                ap-booked e = rw e b
+          pub asking-gained : 0 < getD lost k 0 → (lost′ reach′ ends′ table′ : List ℕ) → Booked (gainedAt order k at table lost reach ends) table′ lost′ reach′ ends′ →
+              Attempted x first from order lost₀ reach₀ ends₀ table₀ true lost′ reach′ ends′ table′
+          asking-gained unit lost′ reach′ ends′ table′ b =
+              let e = (rw (turns-left (length from) k l) at (a .rest)) ∙ tried-lost from order table lost reach ends k at (length from - suc k) open-here unit in
+              record {
+                helped-is = sym (ap (λ (o : Tried). o .helped) e);
+                booked = λ q. booked-by (ap (λ (o : Tried). o .books) e);
+                undone = λ q. absurd (true≢false q);
+              }
+            where
+              booked-by : {books : RankBooks} → books ≡ gainedAt order k at table lost reach ends → Booked books table′ lost′ reach′ ends′
+              booked-by e = rw e b
 
           module _ (none : getD lost k 0 ≤ 0) where
-            pub asking-room : noted < 64
+            asking-room : noted < 64
             asking-room = omega (arith, a .few, a .can .few)
 
             pub asking-below : getD reach k 0 - 1 ≤ length (set table at (jobAt order k))

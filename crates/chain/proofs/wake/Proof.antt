@@ -1,5 +1,5 @@
 -- `chain::wake` meets its contract: one pass over the ranks is the chain, and its notes put back what it changed.
-use Rattle.chain.proofs.Asking.{Asking, asking-start, asking-end, asking-lost-long, asking-ends-long, asking-undoable, asking-in-reach, asking-in-lost, asking-early, asking-behind, asking-gainable, asking-gained, asking-room, asking-below, asking-fits, asking-on}
+use Rattle.chain.proofs.Asking.{Asking, asking-start, asking-end, asking-lost-long, asking-ends-long, asking-undoable, asking-in-reach, asking-in-lost, asking-early, asking-behind, asking-gainable, asking-gained, asking-below, asking-fits, asking-on}
 use lib.ListN.{length}
 use Prim.Native.Nat.{_-_}
 use native.Mathlib.Omega.{arith}
@@ -58,7 +58,7 @@ loop-less-2 c = search needs
 loop-again-2 : tie.Need-loop-again-2 Inv-loop μ-loop
 loop-again-2 c =
     let turn = c .before .before .before .before in
-    asking-behind (turn .before .loop .inv) (turn .loop-test .taken) (c .before .before .if1 .left) (c .if2 .taken)
+    asking-behind (turn .before .loop .inv) (turn .loop-test .taken) (c .before .before .if1 .left) (omega (arith, c .if2 .taken))
 
 mul-if3 : tie.Need-mul-if3 Inv-loop μ-loop
 mul-if3 c = search needs
@@ -72,7 +72,7 @@ gain-requires : tie.Need-gain-requires Inv-loop μ-loop
 gain-requires c κs =
     let met = c .before .before .before .before in
     let turn = met .before .before .before .before .before .before in
-    asking-gainable (turn .before .loop .inv) (turn .loop-test .taken) (met .before .before .before .before .if1 .left) (met .before .before .if2 .left) (met .if3 .taken)
+    asking-gainable (turn .before .loop .inv) (turn .loop-test .taken) (met .if3 .taken)
 
 same-length : tie.Need-same-length Inv-loop μ-loop
 same-length c = search (needs, asking-lost-long (c .before .before .before .before .before .before .before .before .before .before .before .before .before .before .before .before .before .before .before .before .loop .inv))
