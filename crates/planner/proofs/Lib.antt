@@ -2,9 +2,7 @@ pub mod Fronts
 pub mod Inserting
 pub mod Sorting
 pub mod LowestBit
-pub mod Chaining
 pub mod Beginning
-pub mod Growing
 pub mod Edges
 pub mod Readiness
 pub mod SlotBySlot

@@ -4,7 +4,6 @@ pub mod Least
 pub mod Mask
 pub mod Ranks
 pub mod Runs
-pub mod Chains
 pub mod Extending
 pub mod Overload
 pub mod Promises

@@ -12,7 +12,7 @@ use sched::Refusal;
 mod order; // order.rt: the jobs by a key
 mod overload; // overload.rt: step 1
 mod least; // least.rt: step 2, the least skeleton
-mod chain; // chain.rt: whether waking a slot helps, and what it changes
+mod chain;
 mod extend; // extend.rt: step 3
 mod serving; // serving.rt: runs of earliest deadline first, step 4 among them
 

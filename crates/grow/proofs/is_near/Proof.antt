@@ -1,8 +1,8 @@
--- `planner::extend::is_near` meets its contract; slot 0 has one neighbour.
-use Rattle.planner.proofs.Edges.{near-first, near-before, near-behind}
+-- `grow::is_near` meets its contract; slot 0 has one neighbour.
+use Rattle.grow.proofs.Edges.{near-first, near-before, near-behind}
 use borrow.Author.Needs.{needs}
-use Rattle.planner.proofs.extend.is_near.Statement.{statement}
-use Rattle.planner.proofs.extend.is_near.Tie as tie
+use Rattle.grow.proofs.is_near.Statement.{statement}
+use Rattle.grow.proofs.is_near.Tie as tie
 
 is-awake-requires : tie.Need-is-awake-requires
 is-awake-requires c κs = search needs

@@ -1,10 +1,10 @@
--- `planner::extend::is_awake` meets its contract: slots past the table sleep.
-use Rattle.planner.proofs.Edges.{asleep-past}
+-- `grow::is_awake` meets its contract: slots past the table sleep.
+use Rattle.grow.proofs.Edges.{asleep-past}
 use Rattle.sched.specs.Slots.Laws.{awake-of}
 use mathlib.Core.Path.{sym}
 use borrow.Author.Needs.{needs}
-use Rattle.planner.proofs.extend.is_awake.Statement.{statement}
-use Rattle.planner.proofs.extend.is_awake.Tie as tie
+use Rattle.grow.proofs.is_awake.Statement.{statement}
+use Rattle.grow.proofs.is_awake.Tie as tie
 
 shared-slice-read-result : tie.Need-shared-slice-read-result
 shared-slice-read-result c = search needs
