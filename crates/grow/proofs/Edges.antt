@@ -16,6 +16,9 @@ use Rattle.skeleton.specs.Waking.Cursor.{cursorAfter}
 pub asleep-past : (table : List ℕ) (t : ℕ) → length table ≤ t → false ≡ awake (awakeOf table) t
 asleep-past table t l = sym (List·getD-eq-default (awakeOf table) false {n = t} (rw awake-of-length l))
 
+pub set-long : (table : List ℕ) (x : ℕ) → x < length table → x < length (awakeOf table)
+set-long table x l = rw awake-of-length l
+
 -- Slots next to t
 
 module _ (S : List Bool) where

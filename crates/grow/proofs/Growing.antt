@@ -23,8 +23,8 @@ use Rattle.chain.specs.Books.{Booked, Tryable, attempt, Attempted}
 use Rattle.grow.specs.Turns.{Extending, Growing, EndBefore, Extended}
 use Rattle.grow.proofs.Waking.{way-inside, way-pass, way-turn, way-end}
 
-module _ {J : Jobs} {S : List Bool} {from due order lost reach ends table : List ℕ} {short added cursor : ℕ}
-    (g : Growing J S from due order lost reach ends table short added cursor) where
+module _ {J : Jobs} {from due order lost reach ends table : List ℕ} {short added cursor : ℕ}
+    (g : Growing J (awakeOf table) from due order lost reach ends table short added cursor) where
   table-long : length table ≡ J .horizon
   table-long = kept-long (g .kept .kept)
 
@@ -76,23 +76,23 @@ module _ {J : Jobs} {S : List Bool} {from due order lost reach ends table : List
             reach-in = λ k m. reach-in (g .way .passes) (g .kept .kept) (g .ranks) (g .kept .ranked) k (omega (arith, g .from-long));
           }
 
-      module _ (b : Bool) (next : b ≡ not (awake S cursor) && touches S cursor) (o : b ≡ true) where
-        sleeps : awake S cursor ≡ false
-        sleeps = not-true (awake S cursor) (and-true (not (awake S cursor)) (touches S cursor) (sym next ∙ o) .0)
+      module _ (b : Bool) (next : b ≡ not (awake (awakeOf table) cursor) && touches (awakeOf table) cursor) (o : b ≡ true) where
+        sleeps : awake (awakeOf table) cursor ≡ false
+        sleeps = not-true (awake (awakeOf table) cursor) (and-true (not (awake (awakeOf table) cursor)) (touches (awakeOf table) cursor) (sym next ∙ o) .0)
 
-        tells : helps J S cursor ≡ attempt cursor first from order lost reach ends table .helped
+        tells : helps J (awakeOf table) cursor ≡ attempt cursor first from order lost reach ends table .helped
         tells =
             rank-tests (g .way .passes) (g .way .long) (g .ranks) (g .kept) (way-inside (g .way) l) sleeps first-within low
             ∙ ap (λ (n : ℕ). tried from order (n - first) first cursor table lost reach ends .helped) (sym (g .from-long))
 
         module _ {helped : Bool} {lost′ reach′ ends′ table′ : List ℕ}
             (a : Attempted cursor first from order lost reach ends table helped lost′ reach′ ends′ table′) where
-          wanted : wakes J S cursor ≡ helped
+          wanted : wakes J (awakeOf table) cursor ≡ helped
           unfolding wakes
           wanted = rw (sym next ∙ o) (tells ∙ sym (a .helped-is))
 
           -- the slot does not help, and the books are as they were
-          pub growing-vain : helped ≡ false → Growing J S from due order lost′ reach′ ends′ table′ short added (cursor + 1)
+          pub growing-vain : helped ≡ false → Growing J (awakeOf table′) from due order lost′ reach′ ends′ table′ short added (cursor + 1)
           growing-vain v =
               let (t, u, r, e) = a .undone v in
               rw (t, u, r, e)
@@ -106,23 +106,23 @@ module _ {J : Jobs} {S : List Bool} {from due order lost reach ends table : List
               })
 
           module _ (h : helped ≡ true) where
-            updated : KeptByRank J (wakeSlot S cursor) order from table′ lost′ reach′ ends′
+            updated : KeptByRank J (wakeSlot (awakeOf table) cursor) order from table′ lost′ reach′ ends′
             updated =
                 let booked = a .booked h in
                 rw (booked .table-is, booked .lost-is, booked .reach-is, booked .ends-is, g .from-long)
                 (rank-updates (g .way .passes) (g .way .long) (g .ranks) (g .kept) (way-inside (g .way) l) sleeps first-within low
                 (tells ∙ sym (a .helped-is) ∙ h))
 
-            woken-set : awakeOf table′ ≡ wakeSlot S cursor
-            woken-set = kept-set (g .way .passes) (length-set S cursor true ∙ g .way .long) (updated .kept)
+            woken-set : awakeOf table′ ≡ wakeSlot (awakeOf table) cursor
+            woken-set = kept-set (g .way .passes) (length-set (awakeOf table) cursor true ∙ g .way .long) (updated .kept)
 
             -- with the slot asleep again, the set is what it was
-            before : set (awakeOf table′) cursor false ≡ S
+            before : set (awakeOf table′) cursor false ≡ (awakeOf table)
             before =
                 ap (λ (T : List Bool). set T cursor false) woken-set
-                ∙ set-set S cursor true false
-                ∙ ap (set S cursor) (sym sleeps)
-                ∙ set-getD S cursor false
+                ∙ set-set (awakeOf table) cursor true false
+                ∙ ap (set (awakeOf table) cursor) (sym sleeps)
+                ∙ set-getD (awakeOf table) cursor false
 
             pub growing-long : length table′ ≡ length table
             growing-long = kept-long (updated .kept) ∙ sym table-long
@@ -141,8 +141,8 @@ module _ {J : Jobs} {S : List Bool} {from due order lost reach ends table : List
                 })
 
   -- a slot that is awake or alone is passed
-  pub growing-pass : (b : Bool) → b ≡ not (awake S cursor) && touches S cursor → b ≡ false →
-      Growing J S from due order lost reach ends table short added (cursor + 1)
+  pub growing-pass : (b : Bool) → b ≡ not (awake (awakeOf table) cursor) && touches (awakeOf table) cursor → b ≡ false →
+      Growing J (awakeOf table) from due order lost reach ends table short added (cursor + 1)
   unfolding wakes
   growing-pass b next o =
       record {

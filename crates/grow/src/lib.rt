@@ -115,8 +115,10 @@ pub fn grow(
                 if chain::wake(cursor, first, from, order, lost, reach, ends, table) {
                     break 'search cursor;
                 }
+                cursor += 1;
+            } else {
+                cursor += 1;
             }
-            cursor += 1;
         };
         cursor = go_on_from(table, x);
         added += 1;
