@@ -1,21 +1,16 @@
 -- Sums of units and ends of jobs by one pass.
-use Prim.Native.Nat.{ℕ, zero, suc, _+_, _-_, _*_, _≤_, _<_}
+use Prim.Native.Nat.{ℕ, _+_, _*_, _≤_, _<_, suc}
 use mathlib.Core.Path.{_≡_, refl, ap, sym, _∙_}
-use mathlib.Core.Bool.{Bool, true, false, not, _&&_}
 use mathlib.Core.List.{List}
-use mathlib.Core.Logic.{_≢_}
 use native.Mathlib.Omega.{arith}
 use native.Mathlib.Numerals.{add-one}
 use native.Mathlib.Decide.{ℕ-discrete}
-use lib.ListN.{length, getD, set, replicate, length-set, length-replicate, List·getD-eq-default, getD-replicate}
+use lib.ListN.{length, getD, set, replicate, length-set, length-replicate, getD-replicate}
 use lib.Seq.{getD-set-same, getD-set-other}
 use Rattle.sched.specs.Bounded.{sumBelow}
-use Rattle.sched.specs.Slots.{awake, awakeOf, touches}
 use Rattle.edf.specs.Search.{stateOf}
 use Rattle.edf.specs.Chain.{endBelow, endOf}
 use Rattle.edf.specs.Chain.Ends.{end-here, end-lower}
-use Rattle.sched.specs.Slots.Laws.{awake-of-length}
-use Rattle.skeleton.specs.Waking.Cursor.{cursorAfter}
 use Rattle.planner.specs.Extending.{EndsOf}
 
 -- The sum of the units

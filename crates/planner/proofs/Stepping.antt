@@ -23,8 +23,9 @@ use Rattle.sched.specs.Slots.Laws.{awake-of-length}
 use Rattle.demands.specs.Steps.{extended-length, extended-full, plan-feasible}
 use Rattle.planner.specs.Order.{risingBy, keyOf}
 use Rattle.planner.specs.Order.Ranks.{by-deadline}
-use Rattle.planner.specs.Extending.{Extendable, Extended}
-use Rattle.planner.specs.Runs.{Fillable}
+use Rattle.grow.specs.Turns.{Extended}
+use Rattle.planner.specs.Extending.{Extendable}
+use Rattle.serving.specs.Runs.{Fillable}
 use Rattle.planner.specs.Promises.{Free, Stepped}
 
 -- the array has room for every job
