@@ -8,13 +8,13 @@ use native.Mathlib.Decide.{ℕ-discrete}
 use native.Mathlib.Omega.{arith}
 use borrow.Author.Tests.{le-leb, lt-leb, lt-ltb, le-ltb}
 use lib.Dec.{leb, ltb}
-use lib.ListN.{length, getD, set, replicate, length-set}
+use lib.ListN.{length, getD, set, length-set}
 use lib.Seq.{getD-set-same, getD-set-other}
 use Rattle.edf.specs.Chain.{jobAt, endBelow}
 use Rattle.edf.specs.Chain.Ends.{ends-below}
 use Rattle.edf.specs.Chain.Ranks.{RankBooks, rankBooks, Tried, tried, reaches, gainedAt, handedOn}
 use Rattle.chain.specs.Books.{Gainable, Booked, Tryable, Attempted, attempt}
-use Rattle.chain.specs.Notes.{Undoable, Undone}
+use Rattle.chain.specs.Notes.{Noteable, Undoable, Undone}
 use Rattle.chain.proofs.Noting.{Noted, noted-start, noted-next, noted-undoable, noted-reach, noted-table}
 
 module _ (from order table lost reach ends : List ℕ) (k t : ℕ) where
@@ -52,7 +52,7 @@ reached : (a b t : ℕ) → a ≤ t → t < b → leb a t && ltb t b ≡ true
 reached a b t l m = rw (le-leb a t l, lt-ltb t b m)
 
 -- the ranks from k on are still to be asked, and the chain has come to slot at; nothing is gained yet
-pub record Asking (x first : ℕ) (from order lost₀ reach₀ ends₀ table₀ lost reach ends table ranks slots held : List ℕ) (noted at k : ℕ) : Type 0 where
+pub record Asking (x first : ℕ) (from order lost₀ reach₀ ends₀ table₀ ranks₀ slots₀ held₀ lost reach ends table ranks slots held : List ℕ) (noted at k : ℕ) : Type 0 where
   pub can : Tryable x first from order lost₀ reach₀ ends₀ table₀
   pub within : k ≤ length from
   pub few : noted ≤ k
@@ -61,14 +61,17 @@ pub record Asking (x first : ℕ) (from order lost₀ reach₀ ends₀ table₀ 
   pub same-ends : ends ≡ ends₀
   pub same-reach : length reach ≡ length reach₀
   pub same-table : length table ≡ length table₀
+  pub same-ranks : length ranks ≡ length ranks₀
+  pub same-slots : length slots ≡ length slots₀
+  pub same-held : length held ≡ length held₀
   pub reach-in : (i : ℕ) → i < length from → getD reach i 0 ≤ length table
   pub notes : Noted noted at ranks slots held reach table reach₀ table₀
   pub rest : attempt x first from order lost₀ reach₀ ends₀ table₀ ≡ tried from order (length from - k) k at table lost reach ends
 
-module _ {x first : ℕ} {from order lost₀ reach₀ ends₀ table₀ : List ℕ} where
-  pub asking-start : Tryable x first from order lost₀ reach₀ ends₀ table₀ →
-      Asking x first from order lost₀ reach₀ ends₀ table₀ lost₀ reach₀ ends₀ table₀ (replicate 64 0) (replicate 64 0) (replicate 64 0) 0 x first
-  asking-start can =
+module _ {x first : ℕ} {from order lost₀ reach₀ ends₀ table₀ ranks₀ slots₀ held₀ : List ℕ} where
+  pub asking-start : Tryable x first from order lost₀ reach₀ ends₀ table₀ → Noteable ranks₀ slots₀ held₀ →
+      Asking x first from order lost₀ reach₀ ends₀ table₀ ranks₀ slots₀ held₀ lost₀ reach₀ ends₀ table₀ ranks₀ slots₀ held₀ 0 x first
+  asking-start can room =
       record {
         can = can;
         within = can .within;
@@ -78,12 +81,15 @@ module _ {x first : ℕ} {from order lost₀ reach₀ ends₀ table₀ : List �
         same-ends = refl;
         same-reach = refl;
         same-table = refl;
+        same-ranks = refl;
+        same-slots = refl;
+        same-held = refl;
         reach-in = can .reach-in;
-        notes = noted-start x reach₀ table₀;
+        notes = noted-start x ranks₀ slots₀ held₀ reach₀ table₀ room;
         rest = refl;
       }
 
-  module _ {lost reach ends table ranks slots held : List ℕ} {noted at k : ℕ} (a : Asking x first from order lost₀ reach₀ ends₀ table₀ lost reach ends table ranks slots held noted at k) where
+  module _ {lost reach ends table ranks slots held : List ℕ} {noted at k : ℕ} (a : Asking x first from order lost₀ reach₀ ends₀ table₀ ranks₀ slots₀ held₀ lost reach ends table ranks slots held noted at k) where
     pub asking-lost-long : length lost ≡ length lost₀
     asking-lost-long = ap (λ (l : List ℕ). length l) (a .same-lost)
 
@@ -125,7 +131,7 @@ module _ {x first : ℕ} {from order lost₀ reach₀ ends₀ table₀ : List �
           }
 
       skipped : reaches from reach at k ≡ false →
-          Asking x first from order lost₀ reach₀ ends₀ table₀ lost reach ends table ranks slots held noted at (k + 1)
+          Asking x first from order lost₀ reach₀ ends₀ table₀ ranks₀ slots₀ held₀ lost reach ends table ranks slots held noted at (k + 1)
       skipped e =
           record {
             can = a .can;
@@ -136,16 +142,19 @@ module _ {x first : ℕ} {from order lost₀ reach₀ ends₀ table₀ : List �
             same-ends = a .same-ends;
             same-reach = a .same-reach;
             same-table = a .same-table;
+            same-ranks = a .same-ranks;
+            same-slots = a .same-slots;
+            same-held = a .same-held;
             reach-in = a .reach-in;
             notes = a .notes;
             rest = rw add-one (rw (turns-left (length from) k l) at (a .rest) ∙ tried-closed from order table lost reach ends k at (length from - suc k) e);
           }
 
-      pub asking-early : at < getD from k 0 → Asking x first from order lost₀ reach₀ ends₀ table₀ lost reach ends table ranks slots held noted at (k + 1)
+      pub asking-early : at < getD from k 0 → Asking x first from order lost₀ reach₀ ends₀ table₀ ranks₀ slots₀ held₀ lost reach ends table ranks slots held noted at (k + 1)
       asking-early e = skipped (released (getD from k 0) (getD reach k 0) at e)
 
       module _ (begun : getD from k 0 ≤ at) where
-        pub asking-behind : getD reach k 0 ≤ at → Asking x first from order lost₀ reach₀ ends₀ table₀ lost reach ends table ranks slots held noted at (k + 1)
+        pub asking-behind : getD reach k 0 ≤ at → Asking x first from order lost₀ reach₀ ends₀ table₀ ranks₀ slots₀ held₀ lost reach ends table ranks slots held noted at (k + 1)
         asking-behind e = skipped (unreached (getD from k 0) (getD reach k 0) at begun e)
 
         module _ (far : at < getD reach k 0) where
@@ -184,7 +193,7 @@ module _ {x first : ℕ} {from order lost₀ reach₀ ends₀ table₀ : List �
                   rw (e, getD-set-same reach k v 0 asking-in-reach, length-set table at (jobAt order k)) (omega (arith, lower, a .reach-in k l))
               reach-next i m (no f) = rw (getD-set-other reach k i v 0 f, length-set table at (jobAt order k)) (a .reach-in i m)
 
-              pub asking-on : Asking x first from order lost₀ reach₀ ends₀ table₀ lost (set reach k v) ends (set table at (jobAt order k)) (set ranks noted k) (set slots noted at) (set held noted (getD table at 0)) (noted + 1) (getD reach k 0 - 1) (k + 1)
+              pub asking-on : Asking x first from order lost₀ reach₀ ends₀ table₀ ranks₀ slots₀ held₀ lost (set reach k v) ends (set table at (jobAt order k)) (set ranks noted k) (set slots noted at) (set held noted (getD table at 0)) (noted + 1) (getD reach k 0 - 1) (k + 1)
               asking-on =
                   record {
                     can = a .can;
@@ -195,6 +204,9 @@ module _ {x first : ℕ} {from order lost₀ reach₀ ends₀ table₀ : List �
                     same-ends = a .same-ends;
                     same-reach = length-set reach k v ∙ a .same-reach;
                     same-table = length-set table at (jobAt order k) ∙ a .same-table;
+                    same-ranks = length-set ranks noted k ∙ a .same-ranks;
+                    same-slots = length-set slots noted at ∙ a .same-slots;
+                    same-held = length-set held noted (getD table at 0) ∙ a .same-held;
                     reach-in = λ i m. reach-next i m (ℕ-discrete i k);
                     notes = noted-next (a .notes) k v (jobAt order k) asking-room asking-in-reach (a .inside) (omega arith);
                     rest = rw (is, add-one) (rw (turns-left (length from) k l) at (a .rest) ∙ tried-on from order table lost reach ends k at (length from - suc k) open-here none);

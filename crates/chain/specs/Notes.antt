@@ -4,6 +4,12 @@ use mathlib.Core.Path.{_≡_}
 use mathlib.Core.List.{List}
 use lib.ListN.{length, getD, set}
 
+-- the lists have room for a note of each rank
+pub record Noteable (ranks slots held : List ℕ) : Type 0 where
+  pub ranks-long : 64 ≤ length ranks
+  pub slots-long : 64 ≤ length slots
+  pub held-long : 64 ≤ length held
+
 -- the reaches after the first i notes are put back, where the last of them gave up slot t
 unfoldable pub undoneReach : ℕ → ℕ → List ℕ → List ℕ → List ℕ → List ℕ
 undoneReach zero t ranks slots reach = reach

@@ -6,7 +6,7 @@ ghost use lib.ListN.{length};
 ghost use Rattle.edf.specs.Chain.{endBelow};
 ghost use Rattle.edf.specs.Chain.Ranks.{gainedAt};
 ghost use Rattle.chain.specs.Books.{Gainable, Booked, Tryable, Attempted};
-ghost use Rattle.chain.specs.Notes.{Undoable, Undone};
+ghost use Rattle.chain.specs.Notes.{Noteable, Undoable, Undone};
 
 // One more than the last slot below `below` that holds the byte, or 0.
 fn end_below(table: &[u8], byte: u8, below: usize) -> usize
@@ -79,7 +79,8 @@ fn undo(
     }
 }
 
-// Wakes slot x if that helps, and says whether it does; no rank before `first` is asked.
+// Wakes slot x if that helps, and says whether it does; no rank before `first` is asked. The three lists of notes are lent for the call only:
+// what they hold at first is never read, and what they hold afterwards is left open. Lists of its own would have to be zeroed on every call.
 pub fn wake(
     x: usize,
     first: usize,
@@ -89,13 +90,13 @@ pub fn wake(
     reach: &mut [u16],
     ends: &mut [u16],
     table: &mut [u8],
+    ranks: &mut [u8],
+    slots: &mut [u16],
+    held: &mut [u8],
 ) -> bool
-    requires { ⌜ Tryable x first (now from) (now order) (now lost) (now reach) (now ends) (now table) ⌝ }
+    requires { ⌜ Tryable x first (now from) (now order) (now lost) (now reach) (now ends) (now table) × Noteable (now ranks) (now slots) (now held) ⌝ }
     ensures { λ r. ⌜ Attempted x first (now (from .entry)) (now (order .entry)) (now (lost .entry)) (now (reach .entry)) (now (ends .entry)) (now (table .entry)) r (now (lost .exit)) (now (reach .exit)) (now (ends .exit)) (now (table .exit)) ⌝ }
 {
-    let mut ranks = [0u8; 64];
-    let mut slots = [0u16; 64];
-    let mut held = [0u8; 64];
     let mut noted = 0;
     let mut at = x;
     let mut k = first;
@@ -122,6 +123,6 @@ pub fn wake(
         reach[k] = end_below(table, byte, at) as u16;
         k += 1;
     }
-    undo(noted, at, &ranks, &slots, &held, reach, table);
+    undo(noted, at, ranks, slots, held, reach, table);
     false
 }

@@ -9,14 +9,16 @@ use Rattle.chain.proofs.wake.Tie as tie
 
 abbrev Inv-loop : tie.InvT-loop
 Inv-loop x first from order lost₀ reach₀ ends₀ table₀ ranks₀ slots₀ held₀ noted₀ at₀ k₀ lost reach ends table ranks slots held noted at k =
-    Asking x first from order lost₀ reach₀ ends₀ table₀ lost reach ends table ranks slots held noted at k
+    Asking x first from order lost₀ reach₀ ends₀ table₀ ranks₀ slots₀ held₀ lost reach ends table ranks slots held noted at k
 
 abbrev μ-loop : tie.MeasureT-loop
 μ-loop x first from order lost₀ reach₀ ends₀ table₀ ranks₀ slots₀ held₀ noted₀ at₀ k₀ lost reach ends table ranks slots held noted at k =
     length from - k
 
 loop-holds : tie.Need-loop-holds Inv-loop μ-loop
-loop-holds c = asking-start (c .before .before .before .before .before .before .pre)
+loop-holds c =
+    let given = c .before .before .before .before .before .before .before .before .before .pre in
+    asking-start (given .0) (given .1)
 
 mul-if1 : tie.Need-mul-if1 Inv-loop μ-loop
 mul-if1 c = search needs
@@ -47,7 +49,7 @@ slice-read-if2 c =
     asking-in-reach (turn .before .loop .inv) (turn .loop-test .taken)
 
 cast-if2 : tie.Need-cast-if2 Inv-loop μ-loop
-cast-if2 c = omega (arith, c .slice-known5 .given (c .before .before .before .before .loop .k))
+cast-if2 c = omega (arith, c .slice-known8 .given (c .before .before .before .before .loop .k))
 
 add-k-2 : tie.Need-add-k-2 Inv-loop μ-loop
 add-k-2 c = search needs
@@ -86,6 +88,15 @@ same-length-3 c = search (needs, asking-ends-long (c .before .before .before .be
 same-length-4 : tie.Need-same-length-4 Inv-loop μ-loop
 same-length-4 c = search needs
 
+same-length-5 : tie.Need-same-length-5 Inv-loop μ-loop
+same-length-5 c = search needs
+
+same-length-6 : tie.Need-same-length-6 Inv-loop μ-loop
+same-length-6 c = search needs
+
+same-length-7 : tie.Need-same-length-7 Inv-loop μ-loop
+same-length-7 c = search needs
+
 returns : tie.Need-returns Inv-loop μ-loop
 returns c =
     let met = c .before .before .before .before .before .before .before .before .before .before .before .before .before in
@@ -95,8 +106,8 @@ returns c =
 cast-ranks : tie.Need-cast-ranks Inv-loop μ-loop
 cast-ranks c = search needs
 
-array-write-ranks : tie.Need-array-write-ranks Inv-loop μ-loop
-array-write-ranks c = search needs
+slice-write-ranks : tie.Need-slice-write-ranks Inv-loop μ-loop
+slice-write-ranks c = search needs
 
 cast-slots : tie.Need-cast-slots Inv-loop μ-loop
 cast-slots c = search needs
@@ -104,14 +115,14 @@ cast-slots c = search needs
 mul-slots : tie.Need-mul-slots Inv-loop μ-loop
 mul-slots c = search needs
 
-array-write-slots : tie.Need-array-write-slots Inv-loop μ-loop
-array-write-slots c = search needs
+slice-write-slots : tie.Need-slice-write-slots Inv-loop μ-loop
+slice-write-slots c = search needs
 
 slice-read-held : tie.Need-slice-read-held Inv-loop μ-loop
 slice-read-held c = search needs
 
-array-write-held : tie.Need-array-write-held Inv-loop μ-loop
-array-write-held c = search needs
+slice-write-held : tie.Need-slice-write-held Inv-loop μ-loop
+slice-write-held c = search needs
 
 add-noted : tie.Need-add-noted Inv-loop μ-loop
 add-noted c = search needs
@@ -132,7 +143,7 @@ slice-read-at c =
     asking-in-reach (turn .before .loop .inv) (turn .loop-test .taken)
 
 cast-at : tie.Need-cast-at Inv-loop μ-loop
-cast-at c = omega (arith, c .slice-known12 .given (c .before .before .before .before .before .before .before .before .before .before .loop .k))
+cast-at c = omega (arith, c .slice-known15 .given (c .before .before .before .before .before .before .before .before .before .before .loop .k))
 
 sub-at : tie.Need-sub-at Inv-loop μ-loop
 sub-at c = search needs
@@ -171,29 +182,29 @@ loop-again-3 c =
     let turn = met .before .before .before .before .before .before in
     asking-on (turn .before .loop .inv) (turn .loop-test .taken) (met .before .before .before .before .if1 .left) (met .before .before .if2 .left) (met .if3 .left) _ (c .end-below .ensures)
 
-slice-aggregate-undo : tie.Need-slice-aggregate-undo Inv-loop μ-loop
-slice-aggregate-undo c = search needs
-
-slice-aggregate-undo-2 : tie.Need-slice-aggregate-undo-2 Inv-loop μ-loop
-slice-aggregate-undo-2 c = search needs
-
-slice-aggregate-undo-3 : tie.Need-slice-aggregate-undo-3 Inv-loop μ-loop
-slice-aggregate-undo-3 c = search needs
-
 undo-requires : tie.Need-undo-requires Inv-loop μ-loop
 undo-requires c κs = asking-undoable (c .before .before .before .before .before .before .loop .inv)
 
-same-length-5 : tie.Need-same-length-5 Inv-loop μ-loop
-same-length-5 c = search (needs, asking-lost-long (c .before .before .before .before .before .before .before .before .before .before .before .loop .inv))
-
-same-length-6 : tie.Need-same-length-6 Inv-loop μ-loop
-same-length-6 c = search needs
-
-same-length-7 : tie.Need-same-length-7 Inv-loop μ-loop
-same-length-7 c = search (needs, asking-ends-long (c .before .before .before .before .before .before .before .before .before .before .before .loop .inv))
-
 same-length-8 : tie.Need-same-length-8 Inv-loop μ-loop
-same-length-8 c = search needs
+same-length-8 c = search (needs, asking-lost-long (c .before .before .before .before .before .before .before .before .before .before .before .loop .inv))
+
+same-length-9 : tie.Need-same-length-9 Inv-loop μ-loop
+same-length-9 c = search needs
+
+same-length-10 : tie.Need-same-length-10 Inv-loop μ-loop
+same-length-10 c = search (needs, asking-ends-long (c .before .before .before .before .before .before .before .before .before .before .before .loop .inv))
+
+same-length-11 : tie.Need-same-length-11 Inv-loop μ-loop
+same-length-11 c = search needs
+
+same-length-12 : tie.Need-same-length-12 Inv-loop μ-loop
+same-length-12 c = search needs
+
+same-length-13 : tie.Need-same-length-13 Inv-loop μ-loop
+same-length-13 c = search needs
+
+same-length-14 : tie.Need-same-length-14 Inv-loop μ-loop
+same-length-14 c = search needs
 
 returns-2 : tie.Need-returns-2 Inv-loop μ-loop
 returns-2 c =
@@ -226,14 +237,17 @@ wake-spec =
     same-length-2
     same-length-3
     same-length-4
+    same-length-5
+    same-length-6
+    same-length-7
     returns
     cast-ranks
-    array-write-ranks
+    slice-write-ranks
     cast-slots
     mul-slots
-    array-write-slots
+    slice-write-slots
     slice-read-held
-    array-write-held
+    slice-write-held
     add-noted
     shared-slice-read-byte
     slice-write-table
@@ -248,12 +262,12 @@ wake-spec =
     add-k-3
     loop-less-3
     loop-again-3
-    slice-aggregate-undo
-    slice-aggregate-undo-2
-    slice-aggregate-undo-3
     undo-requires
-    same-length-5
-    same-length-6
-    same-length-7
     same-length-8
+    same-length-9
+    same-length-10
+    same-length-11
+    same-length-12
+    same-length-13
+    same-length-14
     returns-2)
