@@ -19,6 +19,7 @@ use Rattle.edf.specs.Chain.Ranks.{RankBooks, tried}
 use Rattle.edf.specs.Chain.Ranks.Start.{reach-in}
 use Rattle.edf.specs.Chain.Ranks.Theorems.{KeptByRank, rank-tests, rank-updates}
 use Rattle.skeleton.specs.Waking.Cursor.{cursorAfter}
+use Rattle.chain.specs.Notes.{Noteable}
 use Rattle.chain.specs.Books.{Booked, Tryable, attempt, Attempted}
 use Rattle.grow.specs.Turns.{Extending, Growing, EndBefore, Extended}
 use Rattle.grow.proofs.Waking.{way-inside, way-pass, way-turn, way-end}
@@ -159,10 +160,18 @@ pub growing-end : {J : Jobs} {from due order lost reach ends table : List ℕ} {
 growing-end g l = way-end (g .way) l
 
 -- between two turns of either loop: the lists keep their lengths
-pub record Grown (J : Jobs) (from due order lost₀ reach₀ ends₀ table₀ lost reach ends table : List ℕ) (short added cursor first : ℕ) : Type 0 where
+pub record Grown (J : Jobs) (from due order lost₀ reach₀ ends₀ table₀ lost reach ends table ranks slots held : List ℕ) (short added cursor first : ℕ) : Type 0 where
   pub now : Growing J (awakeOf table) from due order lost reach ends table short added cursor
   pub first-in : first ≤ length due
   pub same-lost : length lost ≡ length lost₀
   pub same-reach : length reach ≡ length reach₀
   pub same-ends : length ends ≡ length ends₀
   pub same-table : length table ≡ length table₀
+  pub ranks-long : length ranks ≡ 64
+  pub slots-long : length slots ≡ 64
+  pub held-long : length held ≡ 64
+
+pub grown-notes : {J : Jobs} {from due order lost₀ reach₀ ends₀ table₀ lost reach ends table ranks slots held : List ℕ} {short added cursor first : ℕ} →
+    Grown J from due order lost₀ reach₀ ends₀ table₀ lost reach ends table ranks slots held short added cursor first → Noteable ranks slots held
+grown-notes g =
+    record { ranks-long = omega (arith, g .ranks-long); slots-long = omega (arith, g .slots-long); held-long = omega (arith, g .held-long) }

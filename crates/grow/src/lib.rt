@@ -104,6 +104,9 @@ pub fn grow(
     requires { ⌜ Growing (jobsOf h q (now releases) (now deadlines) (now volumes)) (awakeOf (now table)) (now from) (now due) (now order) (now lost) (now reach) (now ends) (now table) shortfall 0 0 ⌝ }
     ensures { λ r. ⌜ Extended (jobsOf h q (now (releases .entry)) (now (deadlines .entry)) (now (volumes .entry))) (now (table .exit)) r ⌝ }
 {
+    let mut ranks = [0u8; 64];
+    let mut slots = [0u16; 64];
+    let mut held = [0u8; 64];
     let mut short = shortfall;
     let mut cursor = 0;
     let mut first = 0;
@@ -112,7 +115,10 @@ pub fn grow(
         let x = 'search: loop {
             if is_next(table, cursor) {
                 first = first_due(due, cursor, first);
-                if chain::wake(cursor, first, from, order, lost, reach, ends, table) {
+                if chain::wake(
+                    cursor, first, from, order, lost, reach, ends, table, &mut ranks, &mut slots,
+                    &mut held,
+                ) {
                     break 'search cursor;
                 }
                 cursor += 1;

@@ -70,15 +70,17 @@ fn reach_of(due: u16, lost: u16, end: u16) -> u16
     if lost == 0 { end } else { due }
 }
 
-fn reaches(due: &[u16], lost: &[u16], ends: &[u16], reach: &mut [u16])
-    requires { ⌜ (length (now lost) ≡ length (now due)) × (length (now ends) ≡ length (now due)) × (length (now reach) ≡ length (now due)) ⌝ }
-    ensures { λ r. ⌜ ReachOf (now (due .entry)) (now (lost .entry)) (now (ends .entry)) (now (reach .exit)) (length (now (due .entry))) ⌝ }
+fn reaches(due: &[u16], lost: &[u16], ends: &[u16]) -> [u16; 64]
+    requires { ⌜ (length (now due) ≡ 64) × (length (now lost) ≡ 64) × (length (now ends) ≡ 64) ⌝ }
+    ensures { λ r. ⌜ ReachOf (now (due .entry)) (now (lost .entry)) (now (ends .entry)) r 64 ⌝ }
 {
+    let mut reach = [0u16; 64];
     let mut k = 0;
-    while k < due.len() {
+    while k < 64 {
         reach[k] = reach_of(due[k], lost[k], ends[k]);
         k += 1;
     }
+    reach
 }
 
 // The books by job become books by rank, and grow.
@@ -98,16 +100,11 @@ fn grow_all(
     ensures { λ r. ⌜ Extended (jobsOf h q (now (releases .entry)) (now (deadlines .entry)) (now (volumes .entry))) (now (table .exit)) r ⌝ }
 {
     let n = order.len();
-    let mut from = [0u16; 64];
-    let mut due = [0u16; 64];
-    let mut lost = [0u16; 64];
-    let mut ends = [0u16; 64];
-    let mut reach = [0u16; 64];
-    order::by_rank(releases, order, &mut from[..n]);
-    order::by_rank(deadlines, order, &mut due[..n]);
-    order::by_rank(left, order, &mut lost[..n]);
-    order::by_rank(last, order, &mut ends[..n]);
-    reaches(&due[..n], &lost[..n], &ends[..n], &mut reach[..n]);
+    let from = order::ranked(releases, order);
+    let due = order::ranked(deadlines, order);
+    let mut lost = order::ranked(left, order);
+    let mut ends = order::ranked(last, order);
+    let mut reach = reaches(&due, &lost, &ends);
     grow::grow(
         h,
         q,
@@ -117,9 +114,9 @@ fn grow_all(
         &from[..n],
         &due[..n],
         order,
-        &mut lost[..n],
-        &mut reach[..n],
-        &mut ends[..n],
+        &mut lost,
+        &mut reach,
+        &mut ends,
         table,
         short,
     )

@@ -1,6 +1,6 @@
 -- `grow::grow` meets its contract. While volume is short, some slot can be woken, and none before the cursor: so the search ends inside
 -- the table, at the slot that step 3 wakes next.
-use Rattle.grow.proofs.Growing.{Grown, growing-inside, growing-small, growing-tryable, growing-pass, growing-vain, growing-long, growing-turn, growing-end}
+use Rattle.grow.proofs.Growing.{Grown, growing-inside, growing-small, growing-tryable, growing-pass, growing-vain, growing-long, growing-turn, growing-end, grown-notes}
 use Rattle.sched.specs.Jobs.{jobsOf}
 use mathlib.Core.Path.{refl, _∙_}
 use lib.ListN.{length}
@@ -11,19 +11,19 @@ use Rattle.grow.proofs.grow.Statement.{statement}
 use Rattle.grow.proofs.grow.Tie as tie
 
 abbrev Inv-search : tie.InvT-search
-Inv-search h q releases deadlines volumes from due order lost₀ reach₀ ends₀ table₀ shortfall short cursor₀ first₀ added lost reach ends table cursor first =
-    Grown (jobsOf h q releases deadlines volumes) from due order lost₀ reach₀ ends₀ table₀ lost reach ends table short added cursor first
+Inv-search h q releases deadlines volumes from due order lost₀ reach₀ ends₀ table₀ shortfall ranks₀ slots₀ held₀ short cursor₀ first₀ added lost reach ends table ranks slots held cursor first =
+    Grown (jobsOf h q releases deadlines volumes) from due order lost₀ reach₀ ends₀ table₀ lost reach ends table ranks slots held short added cursor first
 
 abbrev μ-search : tie.MeasureT-search
-μ-search h q releases deadlines volumes from due order lost₀ reach₀ ends₀ table₀ shortfall short cursor₀ first₀ added lost reach ends table cursor first =
+μ-search h q releases deadlines volumes from due order lost₀ reach₀ ends₀ table₀ shortfall ranks₀ slots₀ held₀ short cursor₀ first₀ added lost reach ends table ranks slots held cursor first =
     length table₀ - cursor
 
 abbrev Inv-loop : tie.InvT-loop
-Inv-loop h q releases deadlines volumes from due order lost₀ reach₀ ends₀ table₀ shortfall short₀ cursor₀ first₀ added₀ lost reach ends table short cursor first added =
-    Grown (jobsOf h q releases deadlines volumes) from due order lost₀ reach₀ ends₀ table₀ lost reach ends table short added cursor first
+Inv-loop h q releases deadlines volumes from due order lost₀ reach₀ ends₀ table₀ shortfall ranks₀ slots₀ held₀ short₀ cursor₀ first₀ added₀ lost reach ends table ranks slots held short cursor first added =
+    Grown (jobsOf h q releases deadlines volumes) from due order lost₀ reach₀ ends₀ table₀ lost reach ends table ranks slots held short added cursor first
 
 abbrev μ-loop : tie.MeasureT-loop
-μ-loop h q releases deadlines volumes from due order lost₀ reach₀ ends₀ table₀ shortfall short₀ cursor₀ first₀ added₀ lost reach ends table short cursor first added =
+μ-loop h q releases deadlines volumes from due order lost₀ reach₀ ends₀ table₀ shortfall ranks₀ slots₀ held₀ short₀ cursor₀ first₀ added₀ lost reach ends table ranks slots held short cursor first added =
     short
 
 loop-holds : tie.Need-loop-holds Inv-search μ-search Inv-loop μ-loop
@@ -35,12 +35,15 @@ loop-holds c =
       same-reach = refl;
       same-ends = refl;
       same-table = refl;
+      ranks-long = refl;
+      slots-long = refl;
+      held-long = refl;
     }
 
 search-holds : tie.Need-search-holds Inv-search μ-search Inv-loop μ-loop
 search-holds c =
     let g = c .before .loop .inv in
-    record { now = g .now; first-in = g .first-in; same-lost = refl; same-reach = refl; same-ends = refl; same-table = refl }
+    record { now = g .now; first-in = g .first-in; same-lost = refl; same-reach = refl; same-ends = refl; same-table = refl; ranks-long = g .ranks-long; slots-long = g .slots-long; held-long = g .held-long }
 
 is-next-requires : tie.Need-is-next-requires Inv-search μ-search Inv-loop μ-loop
 is-next-requires c κs = growing-inside (c .before .search .inv .now) (c .before .before .loop-test .taken)
@@ -48,23 +51,32 @@ is-next-requires c κs = growing-inside (c .before .search .inv .now) (c .before
 first-due-requires : tie.Need-first-due-requires Inv-search μ-search Inv-loop μ-loop
 first-due-requires c κs = c .before .before .before .search .inv .first-in
 
+slice-aggregate-wake : tie.Need-slice-aggregate-wake Inv-search μ-search Inv-loop μ-loop
+slice-aggregate-wake c = search needs
+
+slice-aggregate-wake-2 : tie.Need-slice-aggregate-wake-2 Inv-search μ-search Inv-loop μ-loop
+slice-aggregate-wake-2 c = search needs
+
+slice-aggregate-wake-3 : tie.Need-slice-aggregate-wake-3 Inv-search μ-search Inv-loop μ-loop
+slice-aggregate-wake-3 c = search needs
+
 wake-requires : tie.Need-wake-requires Inv-search μ-search Inv-loop μ-loop
 wake-requires c κs =
-    let s = c .before .before .before .before .before .before .before .before in
-    growing-tryable (s .search .inv .now) (c .before .before .before .before .first-due .ensures) (s .before .loop-test .taken)
+    let s = c .before .before .before .before .before .before .before .before .before .before .before in
+    (growing-tryable (s .search .inv .now) (c .before .before .before .before .before .before .before .first-due .ensures) (s .before .loop-test .taken), grown-notes (s .search .inv))
 
 add-cursor : tie.Need-add-cursor Inv-search μ-search Inv-loop μ-loop
-add-cursor c = let s = c .before .before .before .before .before .before .before .before .before .before .before .before .before .before .before .before .before .before in omega (arith, growing-small (s .search .inv .now) (s .before .loop-test .taken))
+add-cursor c = let s = c .before .before .before .before .before .before .before .before .before .before .before .before .before .before .before .before .before .before .before .before .before .before .before .before in omega (arith, growing-small (s .search .inv .now) (s .before .loop-test .taken))
 
 search-less : tie.Need-search-less Inv-search μ-search Inv-loop μ-loop
 search-less c =
-    let s = c .before .before .before .before .before .before .before .before .before .before .before .before .before .before .before .before .before .before in
+    let s = c .before .before .before .before .before .before .before .before .before .before .before .before .before .before .before .before .before .before .before .before .before .before .before .before in
     omega (arith, growing-inside (s .search .inv .now) (s .before .loop-test .taken), s .search .inv .same-table)
 
 search-again : tie.Need-search-again Inv-search μ-search Inv-loop μ-loop
 search-again c =
-    let woken = c .before .before .before .before .before .before .before .before .before in
-    let found = woken .before .before .before .before .before in
+    let woken = c .before .before .before .before .before .before .before .before .before .before .before .before in
+    let found = woken .before .before .before .before .before .before .before .before in
     let s = found .before .before .before .before in
     record {
       now =
@@ -75,6 +87,9 @@ search-again c =
       same-reach = woken .wake .kept .1 .1 .1 .1 .1 .0 ∙ s .search .inv .same-reach;
       same-ends = woken .wake .kept .1 .1 .1 .1 .1 .1 .0 ∙ s .search .inv .same-ends;
       same-table = woken .wake .kept .1 .1 .1 .1 .1 .1 .1 .0 ∙ s .search .inv .same-table;
+      ranks-long = woken .wake .kept .1 .1 .1 .1 .1 .1 .1 .1 .0 ∙ s .search .inv .ranks-long;
+      slots-long = woken .wake .kept .1 .1 .1 .1 .1 .1 .1 .1 .1 .0 ∙ s .search .inv .slots-long;
+      held-long = woken .wake .kept .1 .1 .1 .1 .1 .1 .1 .1 .1 .1 .0 ∙ s .search .inv .held-long;
     }
 
 add-cursor-2 : tie.Need-add-cursor-2 Inv-search μ-search Inv-loop μ-loop
@@ -95,17 +110,20 @@ search-again-2 c =
       same-reach = s .search .inv .same-reach;
       same-ends = s .search .inv .same-ends;
       same-table = s .search .inv .same-table;
+      ranks-long = s .search .inv .ranks-long;
+      slots-long = s .search .inv .slots-long;
+      held-long = s .search .inv .held-long;
     }
 
 go-on-from-requires : tie.Need-go-on-from-requires Inv-search μ-search Inv-loop μ-loop
 go-on-from-requires c κs =
-    let woken = c .before .before .before .before .before .before .before .before .before .before in
-    let s = woken .before .before .before .before .before .before .before .before .before in
+    let woken = c .before .before .before .before .before .before .before .before .before .before .before .before .before in
+    let s = woken .before .before .before .before .before .before .before .before .before .before .before .before in
     omega (arith, growing-inside (s .search .inv .now) (s .before .loop-test .taken), woken .wake .kept .1 .1 .1 .1 .1 .1 .1 .0)
 
 add-added : tie.Need-add-added Inv-search μ-search Inv-loop μ-loop
 add-added c =
-    let s = c .before .before .before .before .before .before .before .before .before .before .before .before .before .before .before .before .before .before .before .before in
+    let s = c .before .before .before .before .before .before .before .before .before .before .before .before .before .before .before .before .before .before .before .before .before .before .before .before .before .before in
     let start = s .before .before .before .before .before .before .before .before .before .before .before .before .before in
     omega (arith, s .search .inv .now .way .in-all, start .pre .way .in-all, s .before .loop-test .taken)
 
@@ -117,8 +135,8 @@ loop-less c = search needs
 
 loop-again : tie.Need-loop-again Inv-search μ-search Inv-loop μ-loop
 loop-again c =
-    let woken = c .before .before .before .before .before .before .before .before .before .before .before in
-    let found = woken .before .before .before .before .before in
+    let woken = c .before .before .before .before .before .before .before .before .before .before .before .before .before .before in
+    let found = woken .before .before .before .before .before .before .before .before in
     let s = found .before .before .before .before in
     let outer = s .before .before .loop .inv in
     record {
@@ -130,6 +148,9 @@ loop-again c =
       same-reach = woken .wake .kept .1 .1 .1 .1 .1 .0 ∙ s .search .inv .same-reach ∙ outer .same-reach;
       same-ends = woken .wake .kept .1 .1 .1 .1 .1 .1 .0 ∙ s .search .inv .same-ends ∙ outer .same-ends;
       same-table = woken .wake .kept .1 .1 .1 .1 .1 .1 .1 .0 ∙ s .search .inv .same-table ∙ outer .same-table;
+      ranks-long = woken .wake .kept .1 .1 .1 .1 .1 .1 .1 .1 .0 ∙ s .search .inv .ranks-long;
+      slots-long = woken .wake .kept .1 .1 .1 .1 .1 .1 .1 .1 .1 .0 ∙ s .search .inv .slots-long;
+      held-long = woken .wake .kept .1 .1 .1 .1 .1 .1 .1 .1 .1 .1 .0 ∙ s .search .inv .held-long;
     }
 
 same-length : tie.Need-same-length Inv-search μ-search Inv-loop μ-loop
@@ -159,6 +180,9 @@ grow-spec =
     search-holds
     is-next-requires
     first-due-requires
+    slice-aggregate-wake
+    slice-aggregate-wake-2
+    slice-aggregate-wake-3
     wake-requires
     add-cursor
     search-less
