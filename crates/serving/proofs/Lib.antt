@@ -1,0 +1,4 @@
+pub mod LowestBit
+pub mod Waiting
+pub mod SlotBySlot
+pub mod Filling
