@@ -21,7 +21,7 @@ abbrev μ-loop : tie.MeasureT-loop
 μ-loop t mask next gone releases order soon left ranks₀ i₀ ranks i = length releases - i
 
 within : (c : tie.Then1 Inv-loop μ-loop) → c .before .before .loop .i < length (now (c .before .before .before .before .before .before .before .args .releases))
-within c = come-due (c .before .before .before .before .before .before .before .pre) _ _ (c .before .release-at .ensures) (c .if1 .taken)
+within c = come-due (c .before .before .before .before .before .before .before .pre) _ _ (c .before .release-at .ensures) (omega (arith, c .if1 .taken))
 
 can-reach : (c : tie.Then1 Inv-loop μ-loop) → Reached (now (c .before .before .before .before .before .before .before .args .releases)) (now (c .before .before .before .before .before .before .before .args .order)) (now (c .before .before .before .before .before .before .before .args .soon)) (c .before .before .loop .i)
 can-reach c = reached (c .before .before .before .before .before .before .before .pre) _ (within c)
@@ -54,7 +54,7 @@ joining-requires : tie.Need-joining-requires Inv-loop μ-loop
 joining-requires c κs = omega (arith, c .before .before .before .before .before .before .before .before .before .before .pre .arriving .known _ (within (c .before .before .before)), c .before .before .before .before .before .before .before .before .before .before .pre .few)
 
 add-ranks : tie.Need-add-ranks Inv-loop μ-loop
-add-ranks c = record { fits = come-small (c .before .before .before .before .before .before .before .before .before .before .before .pre) _ _ (come-turn (c .before .before .before .before .before .before .before .before .before .before .before .pre) _ _ _ _ (c .before .before .before .before .before .release-at .ensures) (c .before .before .before .before .if1 .taken) (c .before .before .before .before .before .before .loop .inv) (c .joining .ensures)) }
+add-ranks c = record { fits = come-small (c .before .before .before .before .before .before .before .before .before .before .before .pre) _ _ (come-turn (c .before .before .before .before .before .before .before .before .before .before .before .pre) _ _ _ _ (c .before .before .before .before .before .release-at .ensures) (omega (arith, c .before .before .before .before .if1 .taken)) (c .before .before .before .before .before .before .loop .inv) (c .joining .ensures)) }
 
 add-i : tie.Need-add-i Inv-loop μ-loop
 add-i c = let l = within (c .before .before .before .before) in search needs
@@ -63,7 +63,7 @@ loop-less : tie.Need-loop-less Inv-loop μ-loop
 loop-less c = let l = within (c .before .before .before .before) in omega arith
 
 loop-again : tie.Need-loop-again Inv-loop μ-loop
-loop-again c = come-turn (c .before .before .before .before .before .before .before .before .before .before .before .pre) _ _ _ _ (c .before .before .before .before .before .release-at .ensures) (c .before .before .before .before .if1 .taken) (c .before .before .before .before .before .before .loop .inv) (c .joining .ensures)
+loop-again c = come-turn (c .before .before .before .before .before .before .before .before .before .before .before .pre) _ _ _ _ (c .before .before .before .before .before .release-at .ensures) (omega (arith, c .before .before .before .before .if1 .taken)) (c .before .before .before .before .before .before .loop .inv) (c .joining .ensures)
 
 returns : tie.Need-returns Inv-loop μ-loop
 returns c = record { came = c .before .before .loop .inv; later = omega (arith, c .before .release-at .ensures, c .if1 .left) }

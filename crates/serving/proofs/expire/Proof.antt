@@ -24,13 +24,13 @@ deadline-at-requires : tie.Need-deadline-at-requires Inv-loop μ-loop
 deadline-at-requires c κs = λ l. c .before .before .before .pre .known _ l
 
 add-k : tie.Need-add-k Inv-loop μ-loop
-add-k c = let l = gone-due _ _ _ _ (c .before .before .before .before .before .pre) _ _ (c .before .deadline-at .ensures) (c .if1 .taken) in search needs
+add-k c = let l = gone-due _ _ _ _ (c .before .before .before .before .before .pre) _ _ (c .before .deadline-at .ensures) (omega (arith, c .if1 .taken)) in search needs
 
 loop-less : tie.Need-loop-less Inv-loop μ-loop
-loop-less c = let l = gone-due _ _ _ _ (c .before .before .before .before .before .pre) _ _ (c .before .deadline-at .ensures) (c .if1 .taken) in omega arith
+loop-less c = let l = gone-due _ _ _ _ (c .before .before .before .before .before .pre) _ _ (c .before .deadline-at .ensures) (omega (arith, c .if1 .taken)) in omega arith
 
 loop-again : tie.Need-loop-again Inv-loop μ-loop
-loop-again c = (gone-turn _ _ _ _ (c .before .before .before .before .before .pre) _ _ (c .before .deadline-at .ensures) (c .if1 .taken) (c .before .before .loop .inv .0), omega (arith, c .before .before .loop .inv .1))
+loop-again c = (gone-turn _ _ _ _ (c .before .before .before .before .before .pre) _ _ (c .before .deadline-at .ensures) (omega (arith, c .if1 .taken)) (c .before .before .loop .inv .0), omega (arith, c .before .before .loop .inv .1))
 
 returns : tie.Need-returns Inv-loop μ-loop
 returns c = record { went = c .before .before .loop .inv .0; more = c .before .before .loop .inv .1; later = omega (arith, c .before .deadline-at .ensures, c .if1 .left) }
