@@ -21,9 +21,9 @@ use Rattle.edf.specs.Chain.Missing.{kept-set, kept-volume}
 use Rattle.sched.specs.Slots.Laws.{awake-of-length}
 use Rattle.skeleton.specs.Theorems.{least-is-skeleton, least-length}
 use Rattle.skeleton.specs.Waking.Laws.{woken-count}
-use Rattle.planner.specs.Runs.{Runnable, RunDone}
+use Rattle.serving.specs.Runs.{Runnable, RunDone}
 use Rattle.planner.specs.Extending.{Beginning, EndsOf, Extending}
-use Rattle.planner.proofs.Filling.{ranks-of}
+use Rattle.serving.specs.Ranks.Laws.{ranks-of}
 
 module _ {J : Jobs} {order lost ends table : List ℕ} (g : Beginning J order lost ends table) where
   set-long : length (awakeOf table) ≡ J .horizon

@@ -1,6 +1,6 @@
 -- The front of an array, lent and given back: a function that fills n entries of a local array lends `a[..n]`, and reads it there later.
 use Prim.Native.Nat.{ℕ, _≤_}
-use mathlib.Core.Path.{_≡_, sym, _∙_}
+use mathlib.Core.Path.{_≡_, sym, subst, _∙_}
 use mathlib.Core.List.{List, _++_}
 use native.Mathlib.Omega.{arith}
 use lib.ListN.{length, take, drop, length-append}
@@ -22,3 +22,6 @@ module _ (n : ℕ) (l s : List ℕ) (fits : n ≤ length l) (kept : length s ≡
 
   pub filled-front : take n (s ++ drop n l) ≡ s
   filled-front = take-at s (drop n l) n filled-length
+
+  pub filled-with : (P : List ℕ → Type 0) → P s → P (take n (s ++ drop n l))
+  filled-with P p = subst P (sym filled-front) p

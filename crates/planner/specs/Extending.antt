@@ -13,7 +13,7 @@ use Rattle.sched.specs.Workable.{workable}
 use Rattle.sched.specs.Steps.{wokenIn, woken, wakeAll, extended}
 use Rattle.edf.specs.Chain.{endOf, RankedJobs, Kept}
 use Rattle.skeleton.specs.Waking.Cursor.{NoneBefore}
-use Rattle.planner.specs.Runs.{Units}
+use Rattle.serving.specs.Runs.{Units}
 
 -- what step 3 starts from
 pub record Extendable (J : Jobs) (order table : List ℕ) : Type 0 where

@@ -10,10 +10,10 @@ ghost use Rattle.edf.specs.Search.{stateOf};
 ghost use Rattle.edf.specs.Chain.{gains};
 ghost use Rattle.skeleton.specs.Waking.Cursor.{cursorAfter};
 ghost use Rattle.sched.specs.Jobs.{jobsOf};
+ghost use Rattle.serving.specs.Arrivals.{Arriving};
 ghost use Rattle.planner.specs.Chains.{Readable};
 ghost use Rattle.planner.specs.Extending.{EndsOf, Extendable, Beginning, Extending, Extended};
 use super::chain;
-use super::serving;
 
 const ASLEEP: u8 = 255;
 
@@ -117,14 +117,15 @@ fn begin(
     deadlines: &[u16],
     volumes: &[u16],
     order: &[u8],
+    soon: &[u8],
     lost: &mut [u16],
     ends: &mut [u16],
     table: &mut [u8],
 ) -> u32
-    requires { ⌜ Beginning (jobsOf h q (now releases) (now deadlines) (now volumes)) (now order) (now lost) (now ends) (now table) ⌝ }
+    requires { ⌜ Beginning (jobsOf h q (now releases) (now deadlines) (now volumes)) (now order) (now lost) (now ends) (now table) × Arriving (now releases) (now order) (now soon) ⌝ }
     ensures { λ r. ⌜ Extending (jobsOf h q (now (releases .entry)) (now (deadlines .entry)) (now (volumes .entry))) (awakeOf (now (table .exit))) (now (order .entry)) (now (lost .exit)) (now (ends .exit)) (now (table .exit)) r 0 0 ⌝ }
 {
-    serving::run(releases, deadlines, lost, order, table);
+    serving::run(releases, deadlines, order, soon, lost, table);
     ends_of(table, ends);
     lost_in_all(lost, releases.len())
 }
@@ -170,9 +171,10 @@ pub fn extend(
     deadlines: &[u16],
     volumes: &[u16],
     order: &[u8],
+    soon: &[u8],
     table: &mut [u8],
 ) -> u32
-    requires { ⌜ Extendable (jobsOf h q (now releases) (now deadlines) (now volumes)) (now order) (now table) ⌝ }
+    requires { ⌜ Extendable (jobsOf h q (now releases) (now deadlines) (now volumes)) (now order) (now table) × Arriving (now releases) (now order) (now soon) ⌝ }
     ensures { λ r. ⌜ Extended (jobsOf h q (now (releases .entry)) (now (deadlines .entry)) (now (volumes .entry))) (now (table .exit)) r ⌝ }
 {
     let mut lost = serving::units(volumes);
@@ -184,6 +186,7 @@ pub fn extend(
         deadlines,
         volumes,
         order,
+        soon,
         &mut lost,
         &mut ends,
         table,
