@@ -58,8 +58,8 @@ same-length c = search needs
 returns : tie.Need-returns
 returns c =
     let a = c .before .before .before .before .before .before .before .before .before .before .before .before .before .before .before .before .before .before .before .before .args in
-    stepped _ _ _ _ _ (c .before .before .before .before .before .before .before .before .before .extend .ensures) (c .before .before .before .before .fill .ensures)
-    (c .cost-of .ensures (jobsOf (a .h) (a .q) (now (a .releases)) (now (a .deadlines)) (now (a .volumes))) refl)
+    let J = jobsOf (a .h) (a .q) (now (a .releases)) (now (a .deadlines)) (now (a .volumes)) in
+    stepped J _ _ _ _ (c .before .before .before .before .before .before .before .before .before .extend .ensures) (c .before .before .before .before .fill .ensures) (c .cost-of .ensures J refl)
 
 pub work-spec : {M : Type 1} → statement M
 work-spec =
