@@ -1,12 +1,12 @@
 -- Bits by shifts: serving the lowest bit, case by case, dropping the bits below a rank, and the bit of a rank that joins.
-use Prim.Native.Nat.{ℕ, suc, _-_, _*_, _/_, _%_, _^_, _≤_, _<_}
-use mathlib.Core.Path.{_≡_, refl, sym, ap, _∙_}
+use Prim.Native.Nat.{ℕ, _-_, _*_, _/_, _%_, _^_, _≤_, _<_}
+use mathlib.Core.Path.{_≡_, sym, ap, _∙_}
 use mathlib.Core.Bool.{true, _&&_}
 use mathlib.Core.List.{List}
 use native.Mathlib.Nat.{one-mul, zero-mul, mod-eq-of-lt, lt-of-le-of-lt, div-mul-le-self, div-eq-of-lt}
 use native.Mathlib.Omega.{arith}
 use borrow.Author.Tests.{eq-eqb, ne-eqb, lt-ltb, le-leb, lt-leb}
-use lib.ListN.{length, getD, set}
+use lib.ListN.{getD, set}
 use lib.Seq.{getD-set-same}
 use lib.Dec.{leb, ltb}
 use lib.Pow.{pow-lt, pow-mono}

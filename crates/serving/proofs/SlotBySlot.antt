@@ -1,14 +1,13 @@
 -- One slot of a run, and the run.
-use Prim.Native.Nat.{ℕ, zero, suc, _+_, _-_, _≤_, _<_}
+use Prim.Native.Nat.{ℕ, suc, _+_, _-_, _≤_, _<_}
 use mathlib.Core.Path.{_≡_, refl, sym, ap, _∙_}
-use mathlib.Core.Bool.{Bool, true, false, not}
+use mathlib.Core.Bool.{Bool, true, false}
 use mathlib.Core.List.{List, [], _∷_, _++_, append-nil}
 use native.Mathlib.Omega.{arith}
 use borrow.Author.Tests.{eq-eqb, ne-eqb}
 use native.Mathlib.Numerals.{add-one}
 use lib.ListN.{length, getD, set, take, length-set}
 use lib.Seq.{set-getD, getD-set-other, take-suc-set, take-all, append-snoc}
-use lib.Dec.{eqb}
 use Rattle.sched.specs.Slots.{asleep, awake, awakeOf}
 use Rattle.sched.specs.Slots.Laws.{awake-of}
 use Rattle.edf.specs.Run.{Spans, State, chosen, after, slotByte, bytes, final}
@@ -64,13 +63,9 @@ module _ (releases deadlines order soon : List ℕ) where
         standing = stands-later releases deadlines order soon left t bits next gone u s;
       }
 
-  looked-again : (left : List ℕ) (t bits next gone u bits₀ next₀ gone₀ u₀ : ℕ) → Lookable releases deadlines order soon left t bits₀ next₀ gone₀ u₀ → Looked releases deadlines order soon left t bits next gone u → Lookable releases deadlines order soon left t bits next gone u
-  looked-again left t bits next gone u bits₀ next₀ gone₀ u₀ g k =
-      record { short = g .short; same = g .same; ranks = g .ranks; arriving = g .arriving; standing = k .standing }
-
   module _ (left : List ℕ) (t bits next gone u bits₀ next₀ gone₀ u₀ : ℕ) (g : Lookable releases deadlines order soon left t bits₀ next₀ gone₀ u₀) (k : Looked releases deadlines order soon left t bits next gone u) where
     again : Lookable releases deadlines order soon left t bits next gone u
-    again = looked-again left t bits next gone u bits₀ next₀ gone₀ u₀ g k
+    again = record { short = g .short; same = g .same; ranks = g .ranks; arriving = g .arriving; standing = k .standing }
 
     are : bits ≡ mask (servesRank (spansOf releases deadlines) order t (stateOf left)) (length releases)
     are = bits-serve again (k .before)

@@ -9,7 +9,6 @@ use lib.Count.{trailingZeros}
 use Rattle.sched.specs.Slots.{idle}
 use Rattle.sched.specs.Workable.{lower}
 use Rattle.edf.specs.Run.{Spans, State, servable}
-use Rattle.edf.specs.Search.{stateOf}
 use Rattle.edf.specs.Chain.{Sooner, jobAt}
 pub mod Laws
 pub mod Lowest

@@ -2,15 +2,15 @@
 // ranks in rising order of their releases.
 ghost use mathlib.Core.Path.{_≡_};
 ghost use mathlib.Core.Bool.{_&&_};
-ghost use Prim.Native.Nat.{ℕ, _*_, _/_, _^_, _≤_, _<_};
+ghost use Prim.Native.Nat.{_*_, _/_, _^_, _≤_, _<_};
 ghost use mathlib.Core.List.{_++_};
-ghost use lib.ListN.{length, getD, drop};
+ghost use lib.ListN.{length, drop};
 ghost use lib.Dec.{leb, ltb};
 ghost use Rattle.sched.specs.Slots.{awakeOf};
 ghost use Rattle.sched.specs.Steps.{tableOf};
 ghost use Rattle.sched.specs.Jobs.{jobsOf};
 ghost use Rattle.serving.specs.Mask.{bit};
-ghost use Rattle.serving.specs.Ranks.{spansOf, Ranked, CanServe};
+ghost use Rattle.serving.specs.Ranks.{spansOf, CanServe};
 ghost use Rattle.serving.specs.Arrivals.{comesAt, goesAt, Arriving, orNever};
 ghost use Rattle.serving.specs.Runs.{Reached, Known, Expirable, Expired, Arrivable, Arrived, Sooner, Lookable, Looked, Serves, SlotReady, SlotDone, Runnable, RunDone, Units, Fillable};
 

@@ -31,6 +31,7 @@ slice-aggregate-extend c = filled-front-length _ (replicate 64 0) (c .before .be
 
 extend-requires : tie.Need-extend-requires
 extend-requires c κs = (
+  c .before .before .before .before .before .before .before .before .before .before .pre .0,
   c .before .before .before .before .before .before .before .before .before .before .pre .1,
   filled-with _ (replicate 64 0) (c .before .before .before .by-release .last .1 .1 .0) (c .before .before .before .before .before .before .before .before .before .before .pre .1 .passes .few) (c .before .before .before .by-release .kept .1 .1 .0) (Arriving _ _) (c .before .before .before .by-release .ensures),
 )
@@ -58,8 +59,8 @@ same-length c = search needs
 returns : tie.Need-returns
 returns c =
     let a = c .before .before .before .before .before .before .before .before .before .before .before .before .before .before .before .before .before .before .before .before .args in
-    stepped _ _ _ _ _ (c .before .before .before .before .before .before .before .before .before .extend .ensures) (c .before .before .before .before .fill .ensures)
-    (c .cost-of .ensures (jobsOf (a .h) (a .q) (now (a .releases)) (now (a .deadlines)) (now (a .volumes))) refl)
+    let J = jobsOf (a .h) (a .q) (now (a .releases)) (now (a .deadlines)) (now (a .volumes)) in
+    stepped J _ _ _ _ (c .before .before .before .before .before .before .before .before .before .extend .ensures) (c .before .before .before .before .fill .ensures) (c .cost-of .ensures J refl)
 
 pub work-spec : {M : Type 1} → statement M
 work-spec =

@@ -1,18 +1,14 @@
 -- `serving::arrive` meets its contract: the next rank of `soon` joins while it is released.
 use borrow.Author.Needs.{needs}
-use Prim.Native.Nat.{_-_, _≤_, _<_}
+use Prim.Native.Nat.{_-_, _<_}
 use native.Mathlib.Omega.{arith}
 use lib.ListN.{length, getD}
 use denote.Ref.{now}
 use Rattle.serving.specs.Arrivals.{Come}
 use Rattle.serving.specs.Runs.{Reached}
-use Rattle.serving.proofs.Waiting.{reached, come-due, come-turn, come-small}
+use Rattle.serving.proofs.Events.{reached, come-due, come-turn, come-small}
 use Rattle.serving.proofs.arrive.Statement.{statement}
 use Rattle.serving.proofs.arrive.Tie as tie
-use Rattle.serving.proofs.arrive.Reads as reads
-use Rattle.serving.proofs.arrive.Lts as lts
-use Rattle.serving.proofs.joining.Reads as joining-reads
-use Rattle.serving.proofs.release_at.Reads as release-at-reads
 
 abbrev Inv-loop : tie.InvT-loop
 Inv-loop t mask next gone releases order soon left ranks₀ i₀ ranks i = Come releases order soon left t ranks i gone

@@ -7,8 +7,6 @@ use lib.ListN.{length, take, drop, length-set}
 use Rattle.serving.proofs.Filling.{copied-turn, copied-end}
 use Rattle.serving.proofs.copy.Statement.{statement}
 use Rattle.serving.proofs.copy.Tie as tie
-use Rattle.serving.proofs.copy.Reads as reads
-use Rattle.serving.proofs.copy.Lts as lts
 
 abbrev Inv-loop : tie.InvT-loop
 Inv-loop from to₀ i₀ to i = (i ≤ length from) × (length to ≡ length to₀) × (to ≡ take i from ++ drop i to₀)

@@ -1,13 +1,10 @@
 -- `serving::deadline_at` meets its contract, by its test.
 use mathlib.Core.Path.{sym, _∙_}
 use native.Mathlib.Omega.{arith}
-use Rattle.serving.proofs.Waiting.{never-in, never-out}
+use Rattle.serving.proofs.Events.{never-in, never-out}
 use borrow.Author.Needs.{needs}
 use Rattle.serving.proofs.deadline_at.Statement.{statement}
 use Rattle.serving.proofs.deadline_at.Tie as tie
-use Rattle.serving.proofs.deadline_at.Reads as reads
-use Rattle.serving.proofs.deadline_at.Lts as lts
-use Rattle.serving.proofs.wide.Reads as wide-reads
 
 shared-slice-read-job : tie.Need-shared-slice-read-job
 shared-slice-read-job c = (c .before .before .before .before .pre (c .before .if1 .taken)) .listed

@@ -4,8 +4,6 @@ use Rattle.serving.proofs.LowestBit.{dropped, dropped-all}
 use borrow.Author.Needs.{needs}
 use Rattle.serving.proofs.drop_below.Statement.{statement}
 use Rattle.serving.proofs.drop_below.Tie as tie
-use Rattle.serving.proofs.drop_below.Reads as reads
-use Rattle.serving.proofs.drop_below.Lts as lts
 
 cast-result : tie.Need-cast-result
 cast-result c = search needs

@@ -4,12 +4,9 @@ use Prim.Native.Nat.{_-_, _≤_}
 use native.Mathlib.Omega.{arith}
 use lib.ListN.{length}
 use Rattle.serving.specs.Arrivals.{Gone}
-use Rattle.serving.proofs.Waiting.{gone-due, gone-turn}
+use Rattle.serving.proofs.Events.{gone-due, gone-turn}
 use Rattle.serving.proofs.expire.Statement.{statement}
 use Rattle.serving.proofs.expire.Tie as tie
-use Rattle.serving.proofs.expire.Reads as reads
-use Rattle.serving.proofs.expire.Lts as lts
-use Rattle.serving.proofs.deadline_at.Reads as deadline-at-reads
 
 abbrev Inv-loop : tie.InvT-loop
 Inv-loop t gone deadlines order k₀ k = Gone deadlines order t k × (gone ≤ k)

@@ -3,10 +3,6 @@ use Rattle.serving.proofs.Filling.{fill-runnable, run-fills}
 use borrow.Author.Needs.{needs}
 use Rattle.serving.proofs.fill.Statement.{statement}
 use Rattle.serving.proofs.fill.Tie as tie
-use Rattle.serving.proofs.fill.Reads as reads
-use Rattle.serving.proofs.fill.Lts as lts
-use Rattle.serving.proofs.run.Reads as run-reads
-use Rattle.serving.proofs.units.Reads as units-reads
 
 units-requires : tie.Need-units-requires
 units-requires c κs = search needs

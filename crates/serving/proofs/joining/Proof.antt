@@ -3,8 +3,6 @@ use Rattle.serving.proofs.LowestBit.{joins-gone, joins-empty, joins}
 use borrow.Author.Needs.{needs}
 use Rattle.serving.proofs.joining.Statement.{statement}
 use Rattle.serving.proofs.joining.Tie as tie
-use Rattle.serving.proofs.joining.Reads as reads
-use Rattle.serving.proofs.joining.Lts as lts
 
 returns : tie.Need-returns
 returns c = joins-gone (c .before .args .rank) (c .before .args .gone) (c .before .args .units) (c .if1 .taken)

@@ -3,13 +3,10 @@ use mathlib.Core.Path.{sym, _∙_}
 use native.Mathlib.Omega.{arith}
 use lib.ListN.{getD}
 use denote.Ref.{now}
-use Rattle.serving.proofs.Waiting.{never-in, never-out}
+use Rattle.serving.proofs.Events.{never-in, never-out}
 use borrow.Author.Needs.{needs}
 use Rattle.serving.proofs.release_at.Statement.{statement}
 use Rattle.serving.proofs.release_at.Tie as tie
-use Rattle.serving.proofs.release_at.Reads as reads
-use Rattle.serving.proofs.release_at.Lts as lts
-use Rattle.serving.proofs.wide.Reads as wide-reads
 
 shared-slice-read-rank : tie.Need-shared-slice-read-rank
 shared-slice-read-rank c = (c .before .before .before .before .before .pre (c .before .if1 .taken)) .listed

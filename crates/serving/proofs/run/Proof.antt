@@ -10,9 +10,6 @@ use Rattle.serving.proofs.Waiting.{stands-first}
 use Rattle.serving.proofs.SlotBySlot.{run-starts, slot-ready, run-turn, run-stands, run-ends}
 use Rattle.serving.proofs.run.Statement.{statement}
 use Rattle.serving.proofs.run.Tie as tie
-use Rattle.serving.proofs.run.Reads as reads
-use Rattle.serving.proofs.run.Lts as lts
-use Rattle.serving.proofs.slot.Reads as slot-reads
 
 abbrev Inv-loop : tie.InvT-loop
 Inv-loop releases deadlines order soon left₀ table₀ last₀ t₀ left table last t =

@@ -3,10 +3,6 @@ use Rattle.serving.proofs.SlotBySlot.{slot-sleeps, slot-can, slot-serve
 use borrow.Author.Needs.{needs}
 use Rattle.serving.proofs.slot.Statement.{statement}
 use Rattle.serving.proofs.slot.Tie as tie
-use Rattle.serving.proofs.slot.Reads as reads
-use Rattle.serving.proofs.slot.Lts as lts
-use Rattle.serving.proofs.current.Reads as current-reads
-use Rattle.serving.proofs.serve.Reads as serve-reads
 
 slice-read-if1 : tie.Need-slice-read-if1
 slice-read-if1 c = search needs

@@ -3,9 +3,6 @@ use Rattle.serving.proofs.Filling.{units-are}
 use borrow.Author.Needs.{needs}
 use Rattle.serving.proofs.units.Statement.{statement}
 use Rattle.serving.proofs.units.Tie as tie
-use Rattle.serving.proofs.units.Reads as reads
-use Rattle.serving.proofs.units.Lts as lts
-use Rattle.serving.proofs.copy.Reads as copy-reads
 
 slice-aggregate-copy : tie.Need-slice-aggregate-copy
 slice-aggregate-copy c = search needs

@@ -10,7 +10,7 @@ use native.Mathlib.Omega.{arith}
 use borrow.Author.Tests.{le-leb, lt-leb}
 use lib.Dec.{leb}
 use lib.Pow.{shr-shr}
-use lib.Count.{trailingZeros, under, trailing-of-zero}
+use lib.Count.{trailingZeros, under}
 use Rattle.sched.specs.Bounded.{leastFrom}
 use Rattle.serving.specs.Mask.{bit, maskFrom, mask}
 

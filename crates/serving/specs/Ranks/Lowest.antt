@@ -1,5 +1,5 @@
 -- The lowest bit of the ranks that a slot may serve is the job that earliest deadline first serves there.
-use Prim.Native.Nat.{ℕ, suc, _+_, _-_, _^_, _≤_, _<_}
+use Prim.Native.Nat.{ℕ, _-_, _^_, _≤_, _<_}
 use mathlib.Core.Path.{_≡_, refl, sym, ap, subst, _∙_}
 use mathlib.Core.Bool.{Bool, true, false, _&&_}
 use mathlib.Core.List.{List}
@@ -8,13 +8,12 @@ use mathlib.Core.Option.{Option, none, some}
 use native.Mathlib.Decide.{ℕ-discrete, decLt}
 use native.Mathlib.Omega.{arith}
 use borrow.Author.Tests.{eq-eqb, ne-eqb, le-ltb, eqb-true, eqb-false}
-use lib.ListN.{length, getD, set}
+use lib.ListN.{getD, set}
 use lib.Seq.{getD-set-same, getD-set-other}
 use lib.Dec.{leb, ltb, eqb}
 use lib.Count.{trailingZeros}
 use Rattle.sched.specs.Bounded.{leastFrom}
 use Rattle.sched.specs.Bounded.Laws.{by-bool}
-use Rattle.sched.specs.Slots.{idle}
 use Rattle.sched.specs.Steps.{runByte}
 use Rattle.sched.specs.Workable.{lower}
 use Rattle.edf.specs.Run.{Spans, State, Eligible, servable, chosen, after}

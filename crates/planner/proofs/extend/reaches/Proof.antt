@@ -8,13 +8,13 @@ use Rattle.planner.proofs.extend.reaches.Statement.{statement}
 use Rattle.planner.proofs.extend.reaches.Tie as tie
 
 abbrev Inv-loop : tie.InvT-loop
-Inv-loop due lost ends reach₀ k₀ reach k = ?
+Inv-loop due lost ends reach₀ k₀ reach k = Reaching due lost ends reach k
 
 abbrev μ-loop : tie.MeasureT-loop
-μ-loop due lost ends reach₀ k₀ reach k = ?
+μ-loop due lost ends reach₀ k₀ reach k = 64 - k
 
 loop-holds : tie.Need-loop-holds Inv-loop μ-loop
-loop-holds c = search needs
+loop-holds c = reaching-start _ _ _ _ refl
 
 mul-reach-of : tie.Need-mul-reach-of Inv-loop μ-loop
 mul-reach-of c = search needs
@@ -50,10 +50,10 @@ loop-less : tie.Need-loop-less Inv-loop μ-loop
 loop-less c = search needs
 
 loop-again : tie.Need-loop-again Inv-loop μ-loop
-loop-again c = search needs
+loop-again c = reaching-turn _ _ _ _ _ _ (c .before .before .before .before .loop-test .taken) (c .reach-of .ensures) (c .before .before .before .before .before .loop .inv)
 
 returns : tie.Need-returns Inv-loop μ-loop
-returns c = search needs
+returns c = reaching-end _ _ _ _ _ (c .loop-test .left) (c .before .loop .inv)
 
 pub reaches-spec : {M : Type 1} → statement M
 reaches-spec =
