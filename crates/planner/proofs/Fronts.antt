@@ -3,7 +3,7 @@ use Prim.Native.Nat.{ℕ, _≤_, _<_}
 use mathlib.Core.Path.{_≡_, ap, sym, subst, _∙_}
 use mathlib.Core.List.{List, _++_}
 use native.Mathlib.Omega.{arith}
-use lib.ListN.{length, getD, take, drop, length-append}
+use lib.ListN.{length, getD, take, drop, length-append, length-drop}
 use lib.Seq.{length-take-le, take-at, getD-take}
 
 pub front-length : (n : ℕ) (l : List ℕ) → n ≤ length l → n ≡ length (take n l)
@@ -28,3 +28,6 @@ module _ (n : ℕ) (l s : List ℕ) (fits : n ≤ length l) (kept : length s ≡
 
   pub filled-at : (k : ℕ) → k < n → getD (s ++ drop n l) k 0 ≡ getD s k 0
   filled-at k m = sym (getD-take n (s ++ drop n l) k 0 m) ∙ ap (λ (r : List ℕ). getD r k 0) filled-front
+
+  pub filled-long : length (s ++ drop n l) ≡ length l
+  filled-long = omega (arith, length-append s (drop n l), filled-length, length-drop n l)

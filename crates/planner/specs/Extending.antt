@@ -3,7 +3,7 @@ use Prim.Native.Nat.{ℕ, _<_}
 use mathlib.Core.Path.{_≡_}
 use mathlib.Core.Bool.{false}
 use mathlib.Core.List.{List}
-use lib.ListN.{getD, replicate}
+use lib.ListN.{length, getD, replicate}
 use Rattle.sched.specs.Jobs.{Jobs}
 use Rattle.sched.specs.Checks.{Passes}
 use Rattle.sched.specs.Slots.{awakeOf}
@@ -37,6 +37,7 @@ pub record Begun (J : Jobs) (order lost ends table : List ℕ) (short : ℕ) : T
   pub ranks : RankedJobs J order
   pub kept : Kept J (awakeOf table) table lost ends
 
--- how far each of the first n ranks reaches
+-- how far each of the first n ranks reaches, in an array
 pub record ReachOf (due lost ends reach : List ℕ) (n : ℕ) : Type 0 where
+  pub long : length reach ≡ 64
   pub each : (k : ℕ) → k < n → getD reach k 0 ≡ reachOf (getD lost k 0) (getD ends k 0) (getD due k 0)
