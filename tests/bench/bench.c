@@ -8,7 +8,7 @@
 #include <string.h>
 #include <time.h>
 
-enum { FAMILIES = 10, SIZES = 4, STACK = 1 << 20 };
+enum { FAMILIES = 10, SIZES = 4, STACK = 1 << 20, ROUNDS = 60 };
 static const char *family_name[FAMILIES] = {"one", "nested", "tiled", "loose", "random", "no job", "volume 1", "overload", "q 0", "q 65535"};
 static const int sizes[SIZES] = {512, 1024, 2048, 4096};
 
@@ -46,27 +46,32 @@ static size_t spell(const struct list *l, uint8_t *b) {
 }
 
 static uint8_t bytes[512], ours[MAX_H], other[MAX_H], scratch[MAX_H], block[16];
+static uint32_t best_block[4], plain_block[4];
 static size_t bytes_len;
-static int from, to;
 static struct list list;
 
 static void call_ours(void) { sleep_plan(bytes, bytes_len, ours, sizeof ours, block, sizeof block); }
-static void call_best(void) { best_plan(bytes, bytes_len, other, &from, &to); }
-static void call_plain(void) { plain_plan(bytes, bytes_len, scratch, &from, &to); }
+static void call_best(void) { best_plan(bytes, bytes_len, other, best_block); }
+static void call_plain(void) { plain_plan(bytes, bytes_len, scratch, plain_block); }
 static void call_limit(void) { limit_fill(&list, ours, scratch); }
 
 static double now(void) { struct timespec t; clock_gettime(CLOCK_MONOTONIC, &t); return (double)t.tv_sec * 1e6 + (double)t.tv_nsec / 1e3; }
 
-/* The least of several measurements, in microseconds a call. */
-static double measure(void (*call)(void), int repeats) {
-  double least = 1e18;
-  for (int round = 0; round < 5; round++) {
-    double start = now();
-    for (int i = 0; i < repeats; i++) call();
-    double took = (now() - start) / repeats;
-    if (took < least) least = took;
-  }
-  return least;
+/* Microseconds a call, the least of so far and one more measurement. */
+static double least(double so_far, void (*call)(void), int repeats) {
+  double start = now();
+  for (int i = 0; i < repeats; i++) call();
+  double took = (now() - start) / repeats;
+  return took < so_far ? took : so_far;
+}
+
+static int differs(void) {
+  memset(ours, 255, sizeof ours);
+  uint32_t number = sleep_plan(bytes, bytes_len, ours, sizeof ours, block, sizeof block);
+  int best = best_plan(bytes, bytes_len, other, best_block), plain = plain_plan(bytes, bytes_len, scratch, plain_block);
+  if ((int)number != best || best != plain) return 1;
+  for (int i = 0; i < 16; i++) if (block[i] != (uint8_t)(best_block[i / 4] >> 8 * (i % 4)) || best_block[i / 4] != plain_block[i / 4]) return 1;
+  return number == 0 && (memcmp(ours, other, (size_t)list.h) || memcmp(ours, scratch, (size_t)list.h));
 }
 
 /* The deepest stack that a call touches: it runs on a painted stack of its own. */
@@ -102,15 +107,9 @@ int main(int argc, char **argv) {
     for (int s = 0; s < SIZES; s++) {
       make(&list, f, sizes[s]);
       bytes_len = spell(&list, bytes);
-      memset(ours, 255, sizeof ours);
-      uint32_t number = sleep_plan(bytes, bytes_len, ours, sizeof ours, block, sizeof block);
-      int best = best_plan(bytes, bytes_len, other, &from, &to), plain = plain_plan(bytes, bytes_len, scratch, &from, &to);
-      int shown = number != 18 || (block[0] + 256 * block[1] == from && block[4] + 256 * block[5] == to);
-      if ((int)number != best || best != plain || !shown || (number == 0 && (memcmp(ours, other, (size_t)list.h) || memcmp(ours, scratch, (size_t)list.h)))) {
-        printf("%s at %d: tables differ\n", family_name[f], list.h);
-        return 1;
-      }
-      double b = measure(call_best, 40), p = measure(call_plain, 1), o = measure(call_ours, 40), l = measure(call_limit, 40);
+      if (differs()) { printf("%s at %d: answers differ\n", family_name[f], list.h); return 1; }
+      double l = 1e18, b = 1e18, p = least(1e18, call_plain, 1), o = 1e18;
+      for (int round = 0; round < ROUNDS; round++) { l = least(l, call_limit, 10); b = least(b, call_best, 10); o = least(o, call_ours, 10); }
       if (s == 0) at_first = o;
       printf("%-9s %5d %9.1f %9.1f %9.1f %9.1f %7.1f %7.2f\n", family_name[f], list.h, l, b, p, o, o / l, o / b);
       if (s == SIZES - 1) printf("%-9s       grows %.1f-fold from %d to %d slots\n", "", o / at_first, sizes[0], sizes[SIZES - 1]);

@@ -1,4 +1,4 @@
-/* Three implementations of document 01's steps to measure the proved one against. All take jobs as arrays. */
+/* Three implementations of document 01's steps to measure the proved one against. */
 #ifndef KINDS_H
 #define KINDS_H
 #include <stddef.h>
@@ -14,10 +14,9 @@ void limit_fill(const struct list *l, const uint8_t *awake, uint8_t *table);
 /* From list bytes, with all checks: 0, or a refusal's number. */
 int read_list(const uint8_t *bytes, size_t len, struct list *l);
 
-/* All steps by the fast methods, a straightforward attempt that was not tuned by measurement, and all steps with a run for each slot that is
- * tried; both from list bytes. 0 planned, else the
- * refusal's number or 18 with the interval. */
-int best_plan(const uint8_t *bytes, size_t len, uint8_t *table, int *a, int *b);
-int plain_plan(const uint8_t *bytes, size_t len, uint8_t *table, int *a, int *b);
+/* All steps, from list bytes to the table and the four numbers of the block, as sleep_plan has them: 0 planned, 18 overloaded, else a
+ * refusal's number (without its place). `best` is the fastest of the ways that were tried, `plain` makes a run for each slot that is tried. */
+int best_plan(const uint8_t *bytes, size_t len, uint8_t *table, uint32_t *block);
+int plain_plan(const uint8_t *bytes, size_t len, uint8_t *table, uint32_t *block);
 
 #endif

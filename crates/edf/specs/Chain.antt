@@ -23,6 +23,7 @@ pub mod Storing
 pub mod Updates
 pub mod Bounds
 pub mod Missing
+pub mod Ranks
 
 -- One more than the last slot below s that holds j, or 0. To search from s downwards is to step from s to its predecessor.
 unfoldable pub endBelow : ℕ → ℕ → List ℕ → ℕ

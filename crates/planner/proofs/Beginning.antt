@@ -21,9 +21,10 @@ use Rattle.edf.specs.Chain.Missing.{kept-set, kept-volume}
 use Rattle.sched.specs.Slots.Laws.{awake-of-length}
 use Rattle.skeleton.specs.Theorems.{least-is-skeleton, least-length}
 use Rattle.skeleton.specs.Waking.Laws.{woken-count}
-use Rattle.planner.specs.Runs.{Runnable, RunDone}
-use Rattle.planner.specs.Extending.{Beginning, EndsOf, Extending}
-use Rattle.planner.proofs.Filling.{ranks-of}
+use Rattle.serving.specs.Runs.{Runnable, RunDone}
+use Rattle.grow.specs.Turns.{Extending}
+use Rattle.planner.specs.Extending.{Beginning, EndsOf, Begun}
+use Rattle.serving.specs.Ranks.Laws.{ranks-of}
 
 module _ {J : Jobs} {order lost ends table : List ℕ} (g : Beginning J order lost ends table) where
   set-long : length (awakeOf table) ≡ J .horizon
@@ -84,15 +85,13 @@ module _ {J : Jobs} {order lost ends table : List ℕ} (g : Beginning J order lo
                 (workable-at-most-total J (leastSkeleton J) p (least-length J p)),
           )
 
-      begun : Extending J (awakeOf table) order lost′ ends′ table′ short 0 0
+      begun : Extending J (awakeOf table) short 0 0
       unfolding extended woken
       begun =
           record {
             passes = g .extendable .passes;
             free = g .extendable .free;
-            ranks = g .extendable .ranks;
             long = set-long;
-            kept = kept;
             skeleton = ap (isSkeleton J) (g .extendable .set-is) ∙ least-is-skeleton J (g .extendable .passes);
             short-is = missing;
             none-before = λ i l. absurd (omega arith);
@@ -102,7 +101,11 @@ module _ {J : Jobs} {order lost ends table : List ℕ} (g : Beginning J order lo
             in-all = omega (arith, in-all);
           }
 
-      pub begin-done : Extending J (awakeOf table′) order lost′ ends′ table′ short 0 0
+      pub begin-done : Begun J order lost′ ends′ table′ short
       begin-done =
-          subst (λ (S : List Bool). Extending J S order lost′ ends′ table′ short 0 0)
-          (sym (kept-set (g .extendable .passes) set-long kept)) begun
+          let same = sym (kept-set (g .extendable .passes) set-long kept) in
+          record {
+            way = subst (λ (S : List Bool). Extending J S short 0 0) same begun;
+            ranks = g .extendable .ranks;
+            kept = subst (λ (S : List Bool). Kept J S table′ lost′ ends′) same kept;
+          }

@@ -1,90 +1,17 @@
--- Reading a table's set: which slots are awake, which touch the set, where the search goes on; and sums and ends by one pass.
-use Prim.Native.Nat.{ℕ, zero, suc, _+_, _-_, _*_, _≤_, _<_}
+-- Sums of units and ends of jobs by one pass.
+use Prim.Native.Nat.{ℕ, _+_, _*_, _≤_, _<_, suc}
 use mathlib.Core.Path.{_≡_, refl, ap, sym, _∙_}
-use mathlib.Core.Bool.{Bool, true, false, not, _&&_}
 use mathlib.Core.List.{List}
-use mathlib.Core.Logic.{_≢_}
 use native.Mathlib.Omega.{arith}
 use native.Mathlib.Numerals.{add-one}
 use native.Mathlib.Decide.{ℕ-discrete}
-use lib.ListN.{length, getD, set, replicate, length-set, length-replicate, List·getD-eq-default, getD-replicate}
+use lib.ListN.{length, getD, set, replicate, length-set, length-replicate, getD-replicate}
 use lib.Seq.{getD-set-same, getD-set-other}
 use Rattle.sched.specs.Bounded.{sumBelow}
-use Rattle.sched.specs.Slots.{awake, awakeOf, touches}
 use Rattle.edf.specs.Search.{stateOf}
 use Rattle.edf.specs.Chain.{endBelow, endOf}
 use Rattle.edf.specs.Chain.Ends.{end-here, end-lower}
-use Rattle.sched.specs.Slots.Laws.{awake-of-length}
-use Rattle.skeleton.specs.Waking.Cursor.{cursorAfter}
 use Rattle.planner.specs.Extending.{EndsOf}
-
-pub asleep-past : (table : List ℕ) (t : ℕ) → length table ≤ t → false ≡ awake (awakeOf table) t
-asleep-past table t l = sym (List·getD-eq-default (awakeOf table) false {n = t} (rw awake-of-length l))
-
--- Slots next to t
-
-module _ (S : List Bool) where
-  pub near-first : (t : ℕ) (b : Bool) → t ≡ 0 → b ≡ awake S 1 → b ≡ touches S t
-  near-first t b z e = rw z e
-
-  pub near-before : (t : ℕ) (b : Bool) → t ≢ 0 → b ≡ awake S (t - 1) → b ≡ true → true ≡ touches S t
-  near-before zero b n e o = absurd (n refl)
-  near-before (suc t) b n e o =
-      let q : suc t - 1 ≡ t = omega arith in
-      let a : awake S t ≡ true = ap (awake S) (sym q) ∙ sym e ∙ o in
-      rw a
-
-  pub near-behind : (t : ℕ) (b c : Bool) → t ≢ 0 → b ≡ awake S (t - 1) → b ≡ false → c ≡ awake S (t + 1) → c ≡ touches S t
-  near-behind zero b c n e o f = absurd (n refl)
-  near-behind (suc t) b c n e o f =
-      let q : suc t - 1 ≡ t = omega arith in
-      let a : awake S t ≡ false = ap (awake S) (sym q) ∙ sym e ∙ o in
-      rw a (f ∙ ap (awake S) (add-one (suc t)))
-
-  -- Where the search goes on
-
-  pub cursor-first : (x : ℕ) → x ≡ 0 → 1 ≡ cursorAfter S x
-  unfolding cursorAfter
-  cursor-first x z = rw z
-
-  pub cursor-awake : (x : ℕ) (b : Bool) → x ≢ 0 → b ≡ awake S (x - 1) → b ≡ true → x + 1 ≡ cursorAfter S x
-  unfolding cursorAfter
-  cursor-awake zero b n e o = absurd (n refl)
-  cursor-awake (suc y) b n e o =
-      let q : suc y - 1 ≡ y = omega arith in
-      let a : awake S y ≡ true = ap (awake S) (sym q) ∙ sym e ∙ o in
-      rw (a, cursorAfter) (add-one (suc y))
-
-  module _ (b c : Bool) where
-    pub cursor-near : (x : ℕ) → x ≢ 0 → b ≡ awake S (x - 1) → b ≡ false → c ≡ touches S (x - 1) → c ≡ true → x + 1 ≡ cursorAfter S x
-    unfolding cursorAfter
-    cursor-near zero n e o f p = absurd (n refl)
-    cursor-near (suc y) n e o f p =
-        let q : suc y - 1 ≡ y = omega arith in
-        let a : awake S y ≡ false = ap (awake S) (sym q) ∙ sym e ∙ o in
-        let t : touches S y ≡ true = ap (touches S) (sym q) ∙ sym f ∙ p in
-        rw (a, t, cursorAfter) (add-one (suc y))
-
-    pub cursor-back : (x : ℕ) → x ≢ 0 → b ≡ awake S (x - 1) → b ≡ false → c ≡ touches S (x - 1) → c ≡ false → x - 1 ≡ cursorAfter S x
-    unfolding cursorAfter
-    cursor-back zero n e o f p = absurd (n refl)
-    cursor-back (suc y) n e o f p =
-        let q : suc y - 1 ≡ y = omega arith in
-        let a : awake S y ≡ false = ap (awake S) (sym q) ∙ sym e ∙ o in
-        let t : touches S y ≡ false = ap (touches S) (sym q) ∙ sym f ∙ p in
-        rw (a, t, cursorAfter) q
-
--- Three tests in a row
-
-module _ (a n p : Bool) where
-  pub test-awake : (b : Bool) → b ≡ a → b ≡ true → false ≡ not a && n && p
-  test-awake b e o = rw (sym e ∙ o)
-
-  pub test-helps : (b c d : Bool) → b ≡ a → b ≡ false → c ≡ n → c ≡ true → d ≡ p → d ≡ not a && n && p
-  test-helps b c d e o f q g = rw (sym e ∙ o, sym f ∙ q) g
-
-  pub test-alone : (b c : Bool) → b ≡ a → b ≡ false → c ≡ n → c ≡ false → false ≡ not a && n && p
-  test-alone b c e o f q = rw (sym e ∙ o, sym f ∙ q)
 
 -- The sum of the units
 

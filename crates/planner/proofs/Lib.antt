@@ -1,15 +1,10 @@
 pub mod Fronts
 pub mod Inserting
 pub mod Sorting
-pub mod LowestBit
-pub mod Chaining
 pub mod Beginning
-pub mod Growing
+pub mod Gathering
 pub mod Edges
-pub mod Readiness
-pub mod SlotBySlot
 pub mod Searching
-pub mod Filling
 pub mod Placing
 pub mod Sleeping
 pub mod Pricing

@@ -21,10 +21,11 @@ use Rattle.edf.specs.Overload.Laws.{shown-none}
 use Rattle.edf.specs.Chain.{RankedJobs}
 use Rattle.sched.specs.Slots.Laws.{awake-of-length}
 use Rattle.demands.specs.Steps.{extended-length, extended-full, plan-feasible}
-use Rattle.planner.specs.Order.{risingBy, keyOf}
+use Rattle.planner.specs.Order.{risingBy, keyOf, Ordered}
 use Rattle.planner.specs.Order.Ranks.{by-deadline}
-use Rattle.planner.specs.Extending.{Extendable, Extended}
-use Rattle.planner.specs.Runs.{Fillable}
+use Rattle.grow.specs.Turns.{Extended}
+use Rattle.planner.specs.Extending.{Extendable}
+use Rattle.serving.specs.Runs.{Fillable}
 use Rattle.planner.specs.Promises.{Free, Stepped}
 
 -- the array has room for every job
@@ -39,6 +40,11 @@ extendable J order lent table f e s =
       ranks = subst (RankedJobs J) (sym (e ∙ ap (risingBy (deadline J)) (f .passes .same-deadlines))) (by-deadline J);
       set-is = s;
     }
+
+-- the ranks can be sorted by release
+pub ordered : (J : Jobs) (order table soon : List ℕ) → length order ≡ count J → Extendable J order table → length soon ≡ count J → Ordered (J .releases) order soon
+ordered J order table soon whole g places =
+    record { few = g .passes .few; whole = whole; known = λ k l. g .ranks .known k (omega arith); places = places }
 
 pub fillable : (J : Jobs) (order table table′ : List ℕ) (added : ℕ) → Extendable J order table → Extended J table′ added → Fillable J order table′
 fillable J order table table′ added g x =

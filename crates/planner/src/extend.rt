@@ -1,82 +1,15 @@
-// Step 3 of 01: wakes the least slot that touches the set and helps, while volume is short. The table stands for its set of awake slots
-// and is kept as the run of earliest deadline first over them, with the units that it loses and one more than the last slot of each job.
+// Step 3 of 01: the run over the skeleton, its books by rank, then a slot woken while volume is short.
 ghost use mathlib.Core.Path.{_≡_};
-ghost use mathlib.Core.Bool.{not, _&&_};
-ghost use Prim.Native.Nat.{_+_, _≤_, _<_};
+ghost use Prim.Native.Nat.{_≤_};
 ghost use lib.ListN.{length, replicate};
 ghost use Rattle.sched.specs.Bounded.{sumBelow};
-ghost use Rattle.sched.specs.Slots.{awake, awakeOf, touches};
-ghost use Rattle.edf.specs.Search.{stateOf};
-ghost use Rattle.edf.specs.Chain.{gains};
-ghost use Rattle.skeleton.specs.Waking.Cursor.{cursorAfter};
 ghost use Rattle.sched.specs.Jobs.{jobsOf};
-ghost use Rattle.planner.specs.Chains.{Readable};
-ghost use Rattle.planner.specs.Extending.{EndsOf, Extendable, Beginning, Extending, Extended};
-use super::chain;
-use super::serving;
-
-const ASLEEP: u8 = 255;
-
-fn is_awake(table: &[u8], t: usize) -> bool
-    ensures { λ r. ⌜ r ≡ awake (awakeOf (now (table .entry))) t ⌝ }
-{
-    if t < table.len() {
-        return table[t] != ASLEEP;
-    }
-    false
-}
-
-fn is_near(table: &[u8], t: usize) -> bool
-    requires { ⌜ t < length (now table) ⌝ }
-    ensures { λ r. ⌜ r ≡ touches (awakeOf (now (table .entry))) t ⌝ }
-{
-    if t == 0 {
-        return is_awake(table, 1);
-    }
-    if is_awake(table, t - 1) {
-        return true;
-    }
-    is_awake(table, t + 1)
-}
-
-// Slot t sleeps, touches the set and helps.
-fn may_wake(
-    t: usize,
-    releases: &[u16],
-    deadlines: &[u16],
-    order: &[u8],
-    lost: &[u16],
-    ends: &[u16],
-    table: &[u8],
-) -> bool
-    requires { ⌜ Readable (now releases) (now deadlines) (now order) (now lost) (now ends) × (t < length (now table)) ⌝ }
-    ensures { λ r. ⌜ r ≡ not (awake (awakeOf (now (table .entry))) t) && touches (awakeOf (now (table .entry))) t && gains (now (releases .entry)) (now (deadlines .entry)) (now (order .entry)) (now (lost .entry)) (now (ends .entry)) (length (now (releases .entry))) 0 t ⌝ }
-{
-    if is_awake(table, t) {
-        return false;
-    }
-    if is_near(table, t) {
-        return chain::helps(t, releases, deadlines, order, lost, ends);
-    }
-    false
-}
-
-// Where the search goes on once slot x is woken: at the slot before, if only then it touches the set.
-fn go_on_from(table: &[u8], x: usize) -> usize
-    requires { ⌜ x < length (now table) ⌝ }
-    ensures { λ r. ⌜ r ≡ cursorAfter (awakeOf (now (table .entry))) x ⌝ }
-{
-    if x == 0 {
-        return 1;
-    }
-    if is_awake(table, x - 1) {
-        return x + 1;
-    }
-    if is_near(table, x - 1) {
-        return x + 1;
-    }
-    x - 1
-}
+ghost use Rattle.edf.specs.Search.{stateOf};
+ghost use Rattle.edf.specs.Chain.Ranks.Start.{reachOf};
+ghost use Rattle.serving.specs.Arrivals.{Arriving};
+ghost use Rattle.grow.specs.Turns.{Extended};
+ghost use Rattle.planner.specs.Extending.{EndsOf, ReachOf, Extendable, Beginning, Begun};
+use super::order;
 
 // The units that are lost of the first n jobs.
 fn lost_in_all(lost: &[u16], n: usize) -> u32
@@ -117,50 +50,76 @@ fn begin(
     deadlines: &[u16],
     volumes: &[u16],
     order: &[u8],
+    soon: &[u8],
     lost: &mut [u16],
     ends: &mut [u16],
     table: &mut [u8],
 ) -> u32
-    requires { ⌜ Beginning (jobsOf h q (now releases) (now deadlines) (now volumes)) (now order) (now lost) (now ends) (now table) ⌝ }
-    ensures { λ r. ⌜ Extending (jobsOf h q (now (releases .entry)) (now (deadlines .entry)) (now (volumes .entry))) (awakeOf (now (table .exit))) (now (order .entry)) (now (lost .exit)) (now (ends .exit)) (now (table .exit)) r 0 0 ⌝ }
+    requires { ⌜ Beginning (jobsOf h q (now releases) (now deadlines) (now volumes)) (now order) (now lost) (now ends) (now table) × Arriving (now releases) (now order) (now soon) ⌝ }
+    ensures { λ r. ⌜ Begun (jobsOf h q (now (releases .entry)) (now (deadlines .entry)) (now (volumes .entry))) (now (order .entry)) (now (lost .exit)) (now (ends .exit)) (now (table .exit)) r ⌝ }
 {
-    serving::run(releases, deadlines, lost, order, table);
+    serving::run(releases, deadlines, order, soon, lost, table);
     ends_of(table, ends);
     lost_in_all(lost, releases.len())
 }
 
-// Wakes a slot a turn, `shortfall` slots in all, and counts them.
-fn grow(
+// How far a rank reaches: to its deadline while it has lost units, else to its last slot.
+fn reach_of(due: u16, lost: u16, end: u16) -> u16
+    ensures { λ r. ⌜ r ≡ reachOf lost end due ⌝ }
+{
+    if lost == 0 { end } else { due }
+}
+
+fn reaches(due: &[u16], lost: &[u16], ends: &[u16]) -> [u16; 64]
+    requires { ⌜ (length (now due) ≡ 64) × (length (now lost) ≡ 64) × (length (now ends) ≡ 64) ⌝ }
+    ensures { λ r. ⌜ ReachOf (now (due .entry)) (now (lost .entry)) (now (ends .entry)) r 64 ⌝ }
+{
+    let mut reach = [0u16; 64];
+    let mut k = 0;
+    while k < 64 {
+        reach[k] = reach_of(due[k], lost[k], ends[k]);
+        k += 1;
+    }
+    reach
+}
+
+// The books by job become books by rank, and grow.
+fn grow_all(
     h: u16,
     q: u16,
     releases: &[u16],
     deadlines: &[u16],
     volumes: &[u16],
     order: &[u8],
-    lost: &mut [u16],
-    ends: &mut [u16],
+    left: &[u16],
+    last: &[u16],
     table: &mut [u8],
-    shortfall: u32,
+    short: u32,
 ) -> u32
-    requires { ⌜ Extending (jobsOf h q (now releases) (now deadlines) (now volumes)) (awakeOf (now table)) (now order) (now lost) (now ends) (now table) shortfall 0 0 ⌝ }
+    requires { ⌜ (length (now order) ≡ length (now releases)) × Begun (jobsOf h q (now releases) (now deadlines) (now volumes)) (now order) (now left) (now last) (now table) short ⌝ }
     ensures { λ r. ⌜ Extended (jobsOf h q (now (releases .entry)) (now (deadlines .entry)) (now (volumes .entry))) (now (table .exit)) r ⌝ }
 {
-    let mut short = shortfall;
-    let mut cursor = 0;
-    let mut added: u32 = 0;
-    while 0 < short {
-        let x = 'search: loop {
-            if may_wake(cursor, releases, deadlines, order, lost, ends, table) {
-                break 'search cursor;
-            }
-            cursor += 1;
-        };
-        cursor = go_on_from(table, x);
-        chain::wake(x, releases, deadlines, order, lost, ends, table);
-        added += 1;
-        short -= 1;
-    }
-    added
+    let n = order.len();
+    let from = order::ranked(releases, order);
+    let due = order::ranked(deadlines, order);
+    let mut lost = order::ranked(left, order);
+    let mut ends = order::ranked(last, order);
+    let mut reach = reaches(&due, &lost, &ends);
+    grow::grow(
+        h,
+        q,
+        releases,
+        deadlines,
+        volumes,
+        &from[..n],
+        &due[..n],
+        order,
+        &mut lost,
+        &mut reach,
+        &mut ends,
+        table,
+        short,
+    )
 }
 
 pub fn extend(
@@ -170,13 +129,14 @@ pub fn extend(
     deadlines: &[u16],
     volumes: &[u16],
     order: &[u8],
+    soon: &[u8],
     table: &mut [u8],
 ) -> u32
-    requires { ⌜ Extendable (jobsOf h q (now releases) (now deadlines) (now volumes)) (now order) (now table) ⌝ }
+    requires { ⌜ (length (now order) ≡ length (now releases)) × Extendable (jobsOf h q (now releases) (now deadlines) (now volumes)) (now order) (now table) × Arriving (now releases) (now order) (now soon) ⌝ }
     ensures { λ r. ⌜ Extended (jobsOf h q (now (releases .entry)) (now (deadlines .entry)) (now (volumes .entry))) (now (table .exit)) r ⌝ }
 {
-    let mut lost = serving::units(volumes);
-    let mut ends = [0u16; 64];
+    let mut left = serving::units(volumes);
+    let mut last = [0u16; 64];
     let short = begin(
         h,
         q,
@@ -184,19 +144,20 @@ pub fn extend(
         deadlines,
         volumes,
         order,
-        &mut lost,
-        &mut ends,
+        soon,
+        &mut left,
+        &mut last,
         table,
     );
-    grow(
+    grow_all(
         h,
         q,
         releases,
         deadlines,
         volumes,
         order,
-        &mut lost,
-        &mut ends,
+        &left,
+        &last,
         table,
         short,
     )

@@ -1,4 +1,6 @@
 // From a list to a table: document 01's steps on lent lists, a module a step.
+ghost use mathlib.Core.Path.{_≡_};
+ghost use lib.ListN.{length};
 ghost use Rattle.sched.specs.Checks.{Passes};
 ghost use Rattle.sched.specs.Jobs.{jobsOf};
 ghost use Rattle.planner.specs.Extending.{Extendable};
@@ -12,9 +14,7 @@ use sched::Refusal;
 mod order; // order.rt: the jobs by a key
 mod overload; // overload.rt: step 1
 mod least; // least.rt: step 2, the least skeleton
-mod chain; // chain.rt: whether waking a slot helps, and what it changes
 mod extend; // extend.rt: step 3
-mod serving; // serving.rt: runs of earliest deadline first, step 4 among them
 
 // Steps 3 to 5, with the jobs by rank.
 fn work(
@@ -26,11 +26,14 @@ fn work(
     order: &[u8],
     table: &mut [u8],
 ) -> PlanFigures
-    requires { ⌜ Extendable (jobsOf h q (now releases) (now deadlines) (now volumes)) (now order) (now table) ⌝ }
+    requires { ⌜ (length (now order) ≡ length (now releases)) × Extendable (jobsOf h q (now releases) (now deadlines) (now volumes)) (now order) (now table) ⌝ }
     ensures { λ r. ⌜ Stepped (jobsOf h q (now (releases .entry)) (now (deadlines .entry)) (now (volumes .entry))) r (now (table .exit)) ⌝ }
 {
-    let added = extend::extend(h, q, releases, deadlines, volumes, order, table);
-    serving::fill(h, q, releases, deadlines, volumes, order, table);
+    let n = releases.len();
+    let mut soon = [0u8; 64];
+    order::by_release(releases, order, &mut soon[..n]);
+    let added = extend::extend(h, q, releases, deadlines, volumes, order, &soon[..n], table);
+    serving::fill(h, q, releases, deadlines, volumes, order, &soon[..n], table);
     let cost = sched::cost_of(q, table);
     PlanFigures {
         energy: cost.energy,

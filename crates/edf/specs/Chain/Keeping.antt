@@ -64,7 +64,7 @@ module _ {J : Jobs} {S : List Bool} {table lost ends : List ℕ} (kept : Kept J 
   unfolding endOf
   kept-ends j l = rw (kept .ends-is j l, ← kept-long) (ends-below j (length table) table)
 
-  kept-last : count J ≤ 254 → (j : ℕ) → j < count J → LastSlot J (awake S) j (getD ends j 0)
+  pub kept-last : count J ≤ 254 → (j : ℕ) → j < count J → LastSlot J (awake S) j (getD ends j 0)
   kept-last few j l = ends-served few l (rw (kept .table-is) at (kept-ends j l))
 
   -- The chain from a sleeping slot

@@ -36,11 +36,13 @@ slice-aggregate-work c =
 
 work-requires : tie.Need-work-requires
 work-requires c κs =
-    let s = c .before .before .before .before .before .before .before .before .before .before .before .before .before .pre in
-    extendable _ _ _ _ s
-    (filled-front _ (replicate 64 0) (c .before .before .before .sort .last .1 .0) (few _ _ s) (c .before .before .before .sort .kept .1 .0)
-    ∙ c .before .before .before .sort .ensures)
-    (c .before .before .before .before .before .before .before .mark .ensures)
+    let s = c .before .before .before .before .before .before .before .before .before .before .before .before .before .pre in (
+      sym (filled-front-length _ (replicate 64 0) (c .before .before .before .sort .last .1 .0) (few _ _ s) (c .before .before .before .sort .kept .1 .0)) ∙ s .passes .same-deadlines,
+      extendable _ _ _ _ s
+          (filled-front _ (replicate 64 0) (c .before .before .before .sort .last .1 .0) (few _ _ s) (c .before .before .before .sort .kept .1 .0)
+          ∙ c .before .before .before .sort .ensures)
+          (c .before .before .before .before .before .before .before .mark .ensures),
+    )
 
 same-length : tie.Need-same-length
 same-length c = search needs

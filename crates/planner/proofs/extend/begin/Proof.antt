@@ -6,18 +6,18 @@ use Rattle.planner.proofs.extend.begin.Tie as tie
 
 run-requires : tie.Need-run-requires
 run-requires c κs =
-    let s = c .before .before .before .before .before .before .before .before .before in
-    (s .pre .extendable .passes .same-deadlines, begin-runnable (s .pre))
+    let s = c .before .before .before .before .before .before .before .before .before .before in
+    (s .pre .0 .extendable .passes .same-deadlines, begin-runnable (s .pre .0), s .pre .1)
 
 ends-of-requires : tie.Need-ends-of-requires
 ends-of-requires c κs =
     let s = c .before .before .before .before .before .before in
-    (begin-small (s .before .before .before .before .before .before .before .before .before .before .pre) (s .run .ensures), s .before .before .before .before .before .before .before .before .before .before .pre .blank)
+    (begin-small (s .before .before .before .before .before .before .before .before .before .before .before .pre .0) (s .run .ensures), s .before .before .before .before .before .before .before .before .before .before .before .pre .0 .blank)
 
 lost-in-all-requires : tie.Need-lost-in-all-requires
 lost-in-all-requires c κs =
     let s = c .before .before .before .before .before .before .before .before .before .before in
-    begin-room (s .before .before .before .before .before .before .before .before .before .before .pre) (s .run .ensures)
+    begin-room (s .before .before .before .before .before .before .before .before .before .before .before .pre .0) (s .run .ensures)
 
 same-length : tie.Need-same-length
 same-length c = search needs
@@ -32,8 +32,8 @@ returns : tie.Need-returns
 returns c =
     let ended = c .before .before .before .before in
     let ran = ended .before .before .before .before .before .before .before in
-    let start = ran .before .before .before .before .before .before .before .before .before .before in
-    begin-done (start .pre) (ran .run .ensures) (ended .ends-of .kept .1 .0) (ended .ends-of .ensures) _ (c .lost-in-all .ensures)
+    let start = ran .before .before .before .before .before .before .before .before .before .before .before in
+    begin-done (start .pre .0) (ran .run .ensures) (ended .ends-of .kept .1 .0) (ended .ends-of .ensures) _ (c .lost-in-all .ensures)
 
 pub begin-spec : {M : Type 1} → statement M
 begin-spec =

@@ -1,0 +1,213 @@
+-- The loop over ranks: what is left to ask gives what the whole chain does.
+use Prim.Native.Nat.{ℕ, suc, _+_, _-_, _≤_, _<_}
+use mathlib.Core.Path.{_≡_, refl, ap, sym, _∙_}
+use mathlib.Core.Bool.{true, false, true≢false, false≢true, _&&_}
+use mathlib.Core.List.{List}
+use native.Mathlib.Numerals.{add-one}
+use native.Mathlib.Decide.{ℕ-discrete}
+use native.Mathlib.Omega.{arith}
+use borrow.Author.Tests.{le-leb, lt-leb, lt-ltb, le-ltb}
+use lib.Dec.{leb, ltb}
+use lib.ListN.{length, getD, set, length-set}
+use lib.Seq.{getD-set-same, getD-set-other}
+use Rattle.edf.specs.Chain.{jobAt, endBelow}
+use Rattle.edf.specs.Chain.Ends.{ends-below}
+use Rattle.edf.specs.Chain.Ranks.{RankBooks, rankBooks, Tried, tried, reaches, gainedAt, handedOn}
+use Rattle.chain.specs.Books.{Gainable, Booked, Tryable, Attempted, attempt}
+use Rattle.chain.specs.Notes.{Noteable, Undoable, Undone}
+use Rattle.chain.proofs.Noting.{Noted, noted-start, noted-next, noted-undoable, noted-reach, noted-table}
+
+module _ (from order table lost reach ends : List ℕ) (k t : ℕ) where
+  tried-end : tried from order 0 k t table lost reach ends ≡ record { helped = false; books = rankBooks table lost reach ends }
+  unfolding tried
+  tried-end = refl
+
+  module _ (m : ℕ) where
+    tried-closed : reaches from reach t k ≡ false →
+        tried from order (suc m) k t table lost reach ends ≡ tried from order m (suc k) t table lost reach ends
+    unfolding tried
+    tried-closed e = rw (e, tried)
+
+    tried-lost : reaches from reach t k ≡ true → 0 < getD lost k 0 →
+        tried from order (suc m) k t table lost reach ends ≡ record { helped = true; books = gainedAt order k t table lost reach ends }
+    unfolding tried
+    tried-lost e l = rw (e, lt-ltb 0 (getD lost k 0) l, tried)
+
+    tried-on : reaches from reach t k ≡ true → getD lost k 0 ≤ 0 →
+        tried from order (suc m) k t table lost reach ends
+        ≡ tried from order m (suc k) (getD reach k 0 - 1) (set table t (jobAt order k)) lost (handedOn order k t table reach) ends
+    unfolding tried
+    tried-on e l = rw (e, le-ltb 0 (getD lost k 0) l, tried)
+
+turns-left : (n k : ℕ) → k < n → n - k ≡ suc (n - suc k)
+turns-left n k l = omega arith
+
+released : (a b t : ℕ) → t < a → leb a t && ltb t b ≡ false
+released a b t l = rw (lt-leb a t l)
+
+unreached : (a b t : ℕ) → a ≤ t → b ≤ t → leb a t && ltb t b ≡ false
+unreached a b t l m = rw (le-leb a t l, le-ltb t b m)
+
+reached : (a b t : ℕ) → a ≤ t → t < b → leb a t && ltb t b ≡ true
+reached a b t l m = rw (le-leb a t l, lt-ltb t b m)
+
+-- the ranks from k on are still to be asked, and the chain has come to slot at; nothing is gained yet
+pub record Asking (x first : ℕ) (from order lost₀ reach₀ ends₀ table₀ ranks₀ slots₀ held₀ lost reach ends table ranks slots held : List ℕ) (noted at k : ℕ) : Type 0 where
+  pub can : Tryable x first from order lost₀ reach₀ ends₀ table₀
+  pub within : k ≤ length from
+  pub few : noted ≤ k
+  pub inside : at < length table
+  pub same-lost : lost ≡ lost₀
+  pub same-ends : ends ≡ ends₀
+  pub same-reach : length reach ≡ length reach₀
+  pub same-table : length table ≡ length table₀
+  pub same-ranks : length ranks ≡ length ranks₀
+  pub same-slots : length slots ≡ length slots₀
+  pub same-held : length held ≡ length held₀
+  pub reach-in : (i : ℕ) → i < length from → getD reach i 0 ≤ length table
+  pub notes : Noted noted at ranks slots held reach table reach₀ table₀
+  pub rest : attempt x first from order lost₀ reach₀ ends₀ table₀ ≡ tried from order (length from - k) k at table lost reach ends
+
+module _ {x first : ℕ} {from order lost₀ reach₀ ends₀ table₀ ranks₀ slots₀ held₀ : List ℕ} where
+  pub asking-start : Tryable x first from order lost₀ reach₀ ends₀ table₀ → Noteable ranks₀ slots₀ held₀ →
+      Asking x first from order lost₀ reach₀ ends₀ table₀ ranks₀ slots₀ held₀ lost₀ reach₀ ends₀ table₀ ranks₀ slots₀ held₀ 0 x first
+  asking-start can room =
+      record {
+        can = can;
+        within = can .within;
+        few = omega arith;
+        inside = can .inside;
+        same-lost = refl;
+        same-ends = refl;
+        same-reach = refl;
+        same-table = refl;
+        same-ranks = refl;
+        same-slots = refl;
+        same-held = refl;
+        reach-in = can .reach-in;
+        notes = noted-start x ranks₀ slots₀ held₀ reach₀ table₀ room;
+        rest = refl;
+      }
+
+  module _ {lost reach ends table ranks slots held : List ℕ} {noted at k : ℕ} (a : Asking x first from order lost₀ reach₀ ends₀ table₀ ranks₀ slots₀ held₀ lost reach ends table ranks slots held noted at k) where
+    pub asking-lost-long : length lost ≡ length lost₀
+    asking-lost-long = ap (λ (l : List ℕ). length l) (a .same-lost)
+
+    pub asking-ends-long : length ends ≡ length ends₀
+    asking-ends-long = ap (λ (l : List ℕ). length l) (a .same-ends)
+
+    pub asking-undoable : Undoable noted at ranks slots held reach table
+    asking-undoable =
+        noted-undoable (a .notes) (omega (arith, a .few, a .within, a .can .few)) (a .inside) (omega (arith, a .same-table, a .can .small))
+
+    pub asking-end : length from ≤ k → (reach′ table′ : List ℕ) → Undone noted at ranks slots held reach table reach′ table′ →
+        Attempted x first from order lost₀ reach₀ ends₀ table₀ false lost reach′ ends table′
+    asking-end l reach′ table′ u =
+        let z : length from - k ≡ 0 = omega arith in
+        let e = (rw z at (a .rest)) ∙ tried-end from order table lost reach ends k at in
+        record {
+          helped-is = sym (ap (λ (o : Tried). o .helped) e);
+          booked = λ q. absurd (false≢true q);
+          undone = λ q. (noted-table (a .notes) reach′ table′ u, a .same-lost, noted-reach (a .notes) reach′ table′ u, a .same-ends);
+        }
+
+    module _ (l : k < length from) where
+      pub asking-in-reach : k < length reach
+      asking-in-reach = omega (arith, a .can .reach-long, a .same-reach)
+
+      pub asking-in-lost : k < length lost
+      asking-in-lost = rw (a .same-lost) (omega (arith, a .can .lost-long))
+
+      pub asking-gainable : 0 < getD lost k 0 → Gainable k at order lost reach ends table
+      asking-gainable unit =
+          record {
+            in-order = omega (arith, a .can .order-long);
+            in-lost = asking-in-lost;
+            in-reach = asking-in-reach;
+            in-ends = rw (a .same-ends) (omega (arith, a .can .ends-long));
+            in-table = a .inside;
+            small = omega (arith, a .same-table, a .can .small);
+            unit = unit;
+          }
+
+      skipped : reaches from reach at k ≡ false →
+          Asking x first from order lost₀ reach₀ ends₀ table₀ ranks₀ slots₀ held₀ lost reach ends table ranks slots held noted at (k + 1)
+      skipped e =
+          record {
+            can = a .can;
+            within = omega arith;
+            few = omega (arith, a .few);
+            inside = a .inside;
+            same-lost = a .same-lost;
+            same-ends = a .same-ends;
+            same-reach = a .same-reach;
+            same-table = a .same-table;
+            same-ranks = a .same-ranks;
+            same-slots = a .same-slots;
+            same-held = a .same-held;
+            reach-in = a .reach-in;
+            notes = a .notes;
+            rest = rw add-one (rw (turns-left (length from) k l) at (a .rest) ∙ tried-closed from order table lost reach ends k at (length from - suc k) e);
+          }
+
+      pub asking-early : at < getD from k 0 → Asking x first from order lost₀ reach₀ ends₀ table₀ ranks₀ slots₀ held₀ lost reach ends table ranks slots held noted at (k + 1)
+      asking-early e = skipped (released (getD from k 0) (getD reach k 0) at e)
+
+      module _ (begun : getD from k 0 ≤ at) where
+        pub asking-behind : getD reach k 0 ≤ at → Asking x first from order lost₀ reach₀ ends₀ table₀ ranks₀ slots₀ held₀ lost reach ends table ranks slots held noted at (k + 1)
+        asking-behind e = skipped (unreached (getD from k 0) (getD reach k 0) at begun e)
+
+        module _ (far : at < getD reach k 0) where
+          open-here : reaches from reach at k ≡ true
+          open-here = reached (getD from k 0) (getD reach k 0) at begun far
+
+          pub asking-gained : 0 < getD lost k 0 → (lost′ reach′ ends′ table′ : List ℕ) → Booked (gainedAt order k at table lost reach ends) table′ lost′ reach′ ends′ →
+              Attempted x first from order lost₀ reach₀ ends₀ table₀ true lost′ reach′ ends′ table′
+          asking-gained unit lost′ reach′ ends′ table′ b =
+              let e = (rw (turns-left (length from) k l) at (a .rest)) ∙ tried-lost from order table lost reach ends k at (length from - suc k) open-here unit in
+              record {
+                helped-is = sym (ap (λ (o : Tried). o .helped) e);
+                booked = λ q. booked-by (ap (λ (o : Tried). o .books) e);
+                undone = λ q. absurd (true≢false q);
+              }
+            where
+              booked-by : {books : RankBooks} → books ≡ gainedAt order k at table lost reach ends → Booked books table′ lost′ reach′ ends′
+              booked-by e = rw e b
+
+          module _ (none : getD lost k 0 ≤ 0) where
+            asking-room : noted < 64
+            asking-room = omega (arith, a .few, a .can .few)
+
+            pub asking-below : getD reach k 0 - 1 ≤ length (set table at (jobAt order k))
+            asking-below = rw (length-set table at (jobAt order k)) (omega (arith, a .reach-in k l))
+
+            module _ (v : ℕ) (is : v ≡ endBelow (jobAt order k) (getD reach k 0 - 1) (set table at (jobAt order k))) where
+              lower : v ≤ getD reach k 0 - 1
+              lower = rw is (ends-below (jobAt order k) (getD reach k 0 - 1) (set table at (jobAt order k)) .within)
+
+              pub asking-fits : v ≤ 4096
+              asking-fits = omega (arith, lower, a .reach-in k l, a .same-table, a .can .small)
+
+              reach-next : (i : ℕ) → i < length from → Dec (i ≡ k) → getD (set reach k v) i 0 ≤ length (set table at (jobAt order k))
+              reach-next i m (yes e) =
+                  rw (e, getD-set-same reach k v 0 asking-in-reach, length-set table at (jobAt order k)) (omega (arith, lower, a .reach-in k l))
+              reach-next i m (no f) = rw (getD-set-other reach k i v 0 f, length-set table at (jobAt order k)) (a .reach-in i m)
+
+              pub asking-on : Asking x first from order lost₀ reach₀ ends₀ table₀ ranks₀ slots₀ held₀ lost (set reach k v) ends (set table at (jobAt order k)) (set ranks noted k) (set slots noted at) (set held noted (getD table at 0)) (noted + 1) (getD reach k 0 - 1) (k + 1)
+              asking-on =
+                  record {
+                    can = a .can;
+                    within = omega arith;
+                    few = omega (arith, a .few);
+                    inside = rw (length-set table at (jobAt order k)) (omega (arith, a .reach-in k l));
+                    same-lost = a .same-lost;
+                    same-ends = a .same-ends;
+                    same-reach = length-set reach k v ∙ a .same-reach;
+                    same-table = length-set table at (jobAt order k) ∙ a .same-table;
+                    same-ranks = length-set ranks noted k ∙ a .same-ranks;
+                    same-slots = length-set slots noted at ∙ a .same-slots;
+                    same-held = length-set held noted (getD table at 0) ∙ a .same-held;
+                    reach-in = λ i m. reach-next i m (ℕ-discrete i k);
+                    notes = noted-next (a .notes) k v (jobAt order k) asking-room asking-in-reach (a .inside) (omega arith);
+                    rest = rw (is, add-one) (rw (turns-left (length from) k l) at (a .rest) ∙ tried-on from order table lost reach ends k at (length from - suc k) open-here none);
+                  }

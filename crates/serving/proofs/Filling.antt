@@ -1,0 +1,76 @@
+-- Copying the volumes, and step 4 as a run.
+use Prim.Native.Nat.{ℕ, zero, suc, _+_, _-_, _≤_, _<_}
+use mathlib.Core.Path.{_≡_, refl, sym, ap, fun-ext, _∙_}
+use mathlib.Core.Bool.{Bool}
+use mathlib.Core.List.{List, [], _∷_, _++_}
+use native.Mathlib.Numerals.{add-one}
+use native.Mathlib.Omega.{arith}
+use lib.ListN.{length, getD, take, drop, set, replicate, length-append, length-drop, length-replicate}
+use lib.Seq.{getD-drop, take-all, take-suc, drop-cons, set-at, append-snoc, length-take-le}
+use Rattle.sched.specs.Jobs.{Jobs, volume, totalVolume}
+use Rattle.sched.specs.Checks.{Passes}
+use Rattle.sched.specs.Slots.{awake, awakeOf}
+use Rattle.sched.specs.Workable.{workable}
+use Rattle.sched.specs.Steps.{tableOf}
+use Rattle.edf.specs.Run.{spans, bytes, left}
+use Rattle.edf.specs.Search.{stateOf, reads-whole}
+use Rattle.edf.specs.Table.{fill-is-run}
+use Rattle.edf.specs.Whole.{nothing-lost}
+use Rattle.edf.specs.Theorems.{workable-is-edf}
+use Rattle.sched.specs.Slots.Laws.{awake-of-length}
+use Rattle.serving.specs.Ranks.Laws.{ranks-of}
+use Rattle.serving.specs.Runs.{Units, Fillable, Runnable, RunDone}
+
+-- one number more is copied
+pub copied-turn : (source to₀ to : List ℕ) (i : ℕ) → i < length source → length source ≤ length to₀ → to ≡ take i source ++ drop i to₀ → set to i (getD source i 0) ≡ take (i + 1) source ++ drop (i + 1) to₀
+copied-turn source to₀ to i l m e =
+    let x = getD source i 0 in
+    ap (λ (z : List ℕ). set z i x) (e ∙ ap (λ (z : List ℕ). take i source ++ z) (drop-cons to₀ i 0 (omega arith)))
+    ∙ set-at (take i source) (getD to₀ i 0) (drop (suc i) to₀) x i (length-take-le i source (omega arith))
+    ∙ sym (append-snoc (take i source) x (drop (suc i) to₀))
+    ∙ ap (λ (z : List ℕ). z ++ drop (suc i) to₀) (sym (take-suc source i 0 l))
+    ∙ ap (λ (n : ℕ). take n source ++ drop n to₀) (sym (add-one i))
+
+pub copied-end : (source to₀ to : List ℕ) (i : ℕ) → i ≤ length source → length source ≤ i → to ≡ take i source ++ drop i to₀ → to ≡ source ++ drop (length source) to₀
+copied-end source to₀ to i l m e =
+    let n : i ≡ length source = omega arith in
+    e ∙ ap (λ (z : List ℕ). z ++ drop i to₀) (take-all i source m) ∙ ap (λ (k : ℕ). source ++ drop k to₀) n
+
+zeros : (n i : ℕ) → _≡_ {A = ℕ} (getD (replicate n 0) i 0) 0
+zeros zero i = refl
+zeros (suc n) zero = refl
+zeros (suc n) (suc i) = zeros n i
+
+padded : (l z : List ℕ) → ((i : ℕ) → getD z i 0 ≡ 0) → (j : ℕ) → getD (l ++ z) j 0 ≡ getD l j 0
+padded [] z h j = h j
+padded (x ∷ l) z h zero = refl
+padded (x ∷ l) z h (suc j) = padded l z h j
+
+-- the volumes, copied to an array of zeros
+pub units-are : (volumes units : List ℕ) → length volumes ≤ 64 → units ≡ volumes ++ drop (length volumes) (replicate 64 0) → Units volumes units
+units-are volumes units few e = record {
+  long = ap length e ∙ simp (length-append, length-drop, length-replicate) (omega arith);
+  same = ap stateOf e ∙ fun-ext (λ j. padded volumes (drop (length volumes) (replicate 64 0)) (λ i. getD-drop (length volumes) (replicate 64 0) i 0 ∙ zeros 64 (length volumes + i)) j);
+}
+
+-- where all volume is worked, the table of step 4 is that of the run
+pub table-is-run : (J : Jobs) (S : List Bool) → Passes J → length S ≡ J .horizon → workable J S ≡ totalVolume J → bytes (spans J) (awake S) (J .horizon) 0 (volume J) ≡ tableOf J S
+unfolding tableOf left
+table-is-run J S p long full =
+    let done = nothing-lost J (p .same-volumes) S (sym (workable-is-edf J S long) ∙ full) in
+    sym (fill-is-run J (awake S) (volume J) (J .horizon) done S 0 (J .volumes) (reads-whole S) (omega arith) refl
+    ∙ ap (λ (h : ℕ). bytes (spans J) (awake S) h 0 (volume J)) long)
+
+pub run-fills : (J : Jobs) (order table units left′ table′ : List ℕ) → Fillable J order table → Units (J .volumes) units → RunDone (spans J) units table left′ table′ → table′ ≡ tableOf J (awakeOf table)
+run-fills J order table units left′ table′ f u d =
+    d .table-is
+    ∙ ap (λ (h : ℕ). bytes (spans J) (awake (awakeOf table)) h 0 (stateOf units)) (f .long)
+    ∙ ap (bytes (spans J) (awake (awakeOf table)) (J .horizon) 0) (u .same)
+    ∙ table-is-run J (awakeOf table) (f .passes) (awake-of-length table ∙ f .long) (f .full)
+
+pub fill-runnable : (J : Jobs) (order table units : List ℕ) → Fillable J order table → Units (J .volumes) units → Runnable (spans J) order units table
+fill-runnable J order table units f u =
+    record {
+      short = omega (arith, f .long, f .passes .high);
+      ranks = ranks-of J order units (f .passes .few) (omega (arith, f .passes .few, u .long)) (f .ranks);
+    }
