@@ -1,5 +1,5 @@
 -- The loop over ranks: what is left to ask gives what the whole chain does.
-use Prim.Native.Nat.{ℕ, suc, _+_, _-_, _≤_, _<_}
+use Prim.Native.Nat.{ℕ, zero, suc, _+_, _-_, _≤_, _<_}
 use mathlib.Core.Path.{_≡_, refl, ap, sym, _∙_}
 use mathlib.Core.Bool.{true, false, true≢false, false≢true, _&&_}
 use mathlib.Core.List.{List}
@@ -7,14 +7,15 @@ use native.Mathlib.Numerals.{add-one}
 use native.Mathlib.Decide.{ℕ-discrete}
 use native.Mathlib.Omega.{arith}
 use borrow.Author.Tests.{le-leb, lt-leb, lt-ltb, le-ltb}
+use mathlib.Core.Logic.{_≢_}
 use lib.Dec.{leb, ltb}
 use lib.ListN.{length, getD, set, length-set}
 use lib.Seq.{getD-set-same, getD-set-other}
 use Rattle.edf.specs.Chain.{jobAt, endBelow}
 use Rattle.edf.specs.Chain.Ends.{ends-below}
 use Rattle.edf.specs.Chain.Ranks.{RankBooks, rankBooks, Tried, tried, reaches, gainedAt, handedOn}
-use Rattle.chain.specs.Books.{Gainable, Booked, Tryable, Attempted, attempt}
-use Rattle.chain.specs.Notes.{Noteable, Undoable, Undone}
+use Rattle.chain.specs.Books.{Stops, Gainable, Booked, Tryable, Attempted, attempt}
+use Rattle.chain.specs.Notes.{Noteable, slotHeld, Undoable, Undone}
 use Rattle.chain.proofs.Noting.{Noted, noted-start, noted-next, noted-undoable, noted-reach, noted-table}
 
 module _ (from order table lost reach ends : List ℕ) (k t : ℕ) where
@@ -51,8 +52,15 @@ unreached a b t l m = rw (le-leb a t l, le-ltb t b m)
 reached : (a b t : ℕ) → a ≤ t → t < b → leb a t && ltb t b ≡ true
 reached a b t l m = rw (le-leb a t l, lt-ltb t b m)
 
+-- the slot of the next note holds no job that is still to be asked
+held-apart : {x first : ℕ} {from order lost reach ends table : List ℕ} → Tryable x first from order lost reach ends table →
+    (ranks : List ℕ) (k noted : ℕ) → ((i : ℕ) → i < noted → getD ranks i 0 < k) → (i : ℕ) → k ≤ i → i < length from → slotHeld noted ranks order ≢ getD order i 0
+unfolding slotHeld
+held-apart can ranks k zero lower i l m e = omega (arith, can .jobs i m)
+held-apart can ranks k (suc n) lower i l m e = can .apart (getD ranks n 0) i (omega (arith, lower n (omega arith))) m e
+
 -- the ranks from k on are still to be asked, and the chain has come to slot at; nothing is gained yet
-pub record Asking (x first : ℕ) (from order lost₀ reach₀ ends₀ table₀ ranks₀ slots₀ held₀ lost reach ends table ranks slots held : List ℕ) (noted at k : ℕ) : Type 0 where
+pub record Asking (x first : ℕ) (from order lost₀ reach₀ ends₀ table₀ ranks₀ slots₀ lost reach ends table ranks slots : List ℕ) (noted at k : ℕ) : Type 0 where
   pub can : Tryable x first from order lost₀ reach₀ ends₀ table₀
   pub within : k ≤ length from
   pub few : noted ≤ k
@@ -63,14 +71,15 @@ pub record Asking (x first : ℕ) (from order lost₀ reach₀ ends₀ table₀ 
   pub same-table : length table ≡ length table₀
   pub same-ranks : length ranks ≡ length ranks₀
   pub same-slots : length slots ≡ length slots₀
-  pub same-held : length held ≡ length held₀
   pub reach-in : (i : ℕ) → i < length from → getD reach i 0 ≤ length table
-  pub notes : Noted noted at ranks slots held reach table reach₀ table₀
+  pub lower : (i : ℕ) → i < noted → getD ranks i 0 < k
+  pub last : (i : ℕ) → k ≤ i → i < length from → getD lost i 0 ≡ 0 → 0 < getD reach i 0 → getD table (getD reach i 0 - 1) 0 ≡ getD order i 0
+  pub notes : Noted noted at ranks slots order reach table reach₀ table₀
   pub rest : attempt x first from order lost₀ reach₀ ends₀ table₀ ≡ tried from order (length from - k) k at table lost reach ends
 
-module _ {x first : ℕ} {from order lost₀ reach₀ ends₀ table₀ ranks₀ slots₀ held₀ : List ℕ} where
-  pub asking-start : Tryable x first from order lost₀ reach₀ ends₀ table₀ → Noteable ranks₀ slots₀ held₀ →
-      Asking x first from order lost₀ reach₀ ends₀ table₀ ranks₀ slots₀ held₀ lost₀ reach₀ ends₀ table₀ ranks₀ slots₀ held₀ 0 x first
+module _ {x first : ℕ} {from order lost₀ reach₀ ends₀ table₀ ranks₀ slots₀ : List ℕ} where
+  pub asking-start : Tryable x first from order lost₀ reach₀ ends₀ table₀ → Noteable ranks₀ slots₀ →
+      Asking x first from order lost₀ reach₀ ends₀ table₀ ranks₀ slots₀ lost₀ reach₀ ends₀ table₀ ranks₀ slots₀ 0 x first
   asking-start can room =
       record {
         can = can;
@@ -83,24 +92,26 @@ module _ {x first : ℕ} {from order lost₀ reach₀ ends₀ table₀ ranks₀ 
         same-table = refl;
         same-ranks = refl;
         same-slots = refl;
-        same-held = refl;
         reach-in = can .reach-in;
-        notes = noted-start x ranks₀ slots₀ held₀ reach₀ table₀ room;
+        lower = λ i l. absurd (omega arith);
+        last = λ i l. can .last i;
+        notes = noted-start x ranks₀ slots₀ order reach₀ table₀ room (can .asleep);
         rest = refl;
       }
 
-  module _ {lost reach ends table ranks slots held : List ℕ} {noted at k : ℕ} (a : Asking x first from order lost₀ reach₀ ends₀ table₀ ranks₀ slots₀ held₀ lost reach ends table ranks slots held noted at k) where
+  module _ {lost reach ends table ranks slots : List ℕ} {noted at k : ℕ} (a : Asking x first from order lost₀ reach₀ ends₀ table₀ ranks₀ slots₀ lost reach ends table ranks slots noted at k) where
     pub asking-lost-long : length lost ≡ length lost₀
     asking-lost-long = ap (λ (l : List ℕ). length l) (a .same-lost)
 
     pub asking-ends-long : length ends ≡ length ends₀
     asking-ends-long = ap (λ (l : List ℕ). length l) (a .same-ends)
 
-    pub asking-undoable : Undoable noted at ranks slots held reach table
+    pub asking-undoable : Undoable noted at ranks slots order reach table
     asking-undoable =
         noted-undoable (a .notes) (omega (arith, a .few, a .within, a .can .few)) (a .inside) (omega (arith, a .same-table, a .can .small))
+        (λ i l. omega (arith, a .lower i l, a .within, a .can .reach-long, a .same-reach)) (λ i l. omega (arith, a .lower i l, a .within, a .can .order-long))
 
-    pub asking-end : length from ≤ k → (reach′ table′ : List ℕ) → Undone noted at ranks slots held reach table reach′ table′ →
+    pub asking-end : length from ≤ k → (reach′ table′ : List ℕ) → Undone noted at ranks slots order reach table reach′ table′ →
         Attempted x first from order lost₀ reach₀ ends₀ table₀ false lost reach′ ends table′
     asking-end l reach′ table′ u =
         let z : length from - k ≡ 0 = omega arith in
@@ -110,6 +121,12 @@ module _ {x first : ℕ} {from order lost₀ reach₀ ends₀ table₀ ranks₀ 
           booked = λ q. absurd (false≢true q);
           undone = λ q. (noted-table (a .notes) reach′ table′ u, a .same-lost, noted-reach (a .notes) reach′ table′ u, a .same-ends);
         }
+
+    -- no rank still to be asked has its last slot where the chain has come to
+    elsewhere : (i : ℕ) → k ≤ i → i < length from → getD lost i 0 ≡ 0 → 0 < getD reach i 0 → getD reach i 0 - 1 ≢ at
+    elsewhere i m l z p e =
+        held-apart (a .can) ranks k noted (a .lower) i m l
+        (sym (a .notes .holds) ∙ sym (ap (λ (s : ℕ). getD table s 0) e) ∙ a .last i m l z p)
 
     module _ (l : k < length from) where
       pub asking-in-reach : k < length reach
@@ -131,7 +148,7 @@ module _ {x first : ℕ} {from order lost₀ reach₀ ends₀ table₀ ranks₀ 
           }
 
       skipped : reaches from reach at k ≡ false →
-          Asking x first from order lost₀ reach₀ ends₀ table₀ ranks₀ slots₀ held₀ lost reach ends table ranks slots held noted at (k + 1)
+          Asking x first from order lost₀ reach₀ ends₀ table₀ ranks₀ slots₀ lost reach ends table ranks slots noted at (k + 1)
       skipped e =
           record {
             can = a .can;
@@ -144,17 +161,18 @@ module _ {x first : ℕ} {from order lost₀ reach₀ ends₀ table₀ ranks₀ 
             same-table = a .same-table;
             same-ranks = a .same-ranks;
             same-slots = a .same-slots;
-            same-held = a .same-held;
             reach-in = a .reach-in;
+            lower = λ i m. omega (arith, a .lower i m);
+            last = λ i m. a .last i (omega arith);
             notes = a .notes;
             rest = rw add-one (rw (turns-left (length from) k l) at (a .rest) ∙ tried-closed from order table lost reach ends k at (length from - suc k) e);
           }
 
-      pub asking-early : at < getD from k 0 → Asking x first from order lost₀ reach₀ ends₀ table₀ ranks₀ slots₀ held₀ lost reach ends table ranks slots held noted at (k + 1)
+      pub asking-early : at < getD from k 0 → Asking x first from order lost₀ reach₀ ends₀ table₀ ranks₀ slots₀ lost reach ends table ranks slots noted at (k + 1)
       asking-early e = skipped (released (getD from k 0) (getD reach k 0) at e)
 
       module _ (begun : getD from k 0 ≤ at) where
-        pub asking-behind : getD reach k 0 ≤ at → Asking x first from order lost₀ reach₀ ends₀ table₀ ranks₀ slots₀ held₀ lost reach ends table ranks slots held noted at (k + 1)
+        pub asking-behind : getD reach k 0 ≤ at → Asking x first from order lost₀ reach₀ ends₀ table₀ ranks₀ slots₀ lost reach ends table ranks slots noted at (k + 1)
         asking-behind e = skipped (unreached (getD from k 0) (getD reach k 0) at begun e)
 
         module _ (far : at < getD reach k 0) where
@@ -178,8 +196,22 @@ module _ {x first : ℕ} {from order lost₀ reach₀ ends₀ table₀ ranks₀ 
             asking-room : noted < 64
             asking-room = omega (arith, a .few, a .can .few)
 
-            pub asking-below : getD reach k 0 - 1 ≤ length (set table at (jobAt order k))
-            asking-below = rw (length-set table at (jobAt order k)) (omega (arith, a .reach-in k l))
+            onward : at < getD reach k 0 - 1
+            onward = omega (arith, elsewhere k (omega arith) l (omega arith) (omega arith))
+
+            pub asking-stops : Stops (jobAt order k) (getD reach k 0 - 1) (set table at (jobAt order k))
+            asking-stops =
+                record {
+                  within = rw (length-set table at (jobAt order k)) (omega (arith, a .reach-in k l));
+                  slot = at;
+                  lower = onward;
+                  holds = getD-set-same table at (jobAt order k) 0 (a .inside);
+                }
+
+            kept-on : (i : ℕ) → k ≤ i → i < length from → getD lost i 0 ≡ 0 → 0 < getD reach i 0 →
+                getD (set table at (jobAt order k)) (getD reach i 0 - 1) 0 ≡ getD order i 0
+            kept-on i m b z p =
+                getD-set-other table at (getD reach i 0 - 1) (jobAt order k) 0 (elsewhere i m b z p) ∙ a .last i m b z p
 
             module _ (v : ℕ) (is : v ≡ endBelow (jobAt order k) (getD reach k 0 - 1) (set table at (jobAt order k))) where
               lower : v ≤ getD reach k 0 - 1
@@ -193,7 +225,16 @@ module _ {x first : ℕ} {from order lost₀ reach₀ ends₀ table₀ ranks₀ 
                   rw (e, getD-set-same reach k v 0 asking-in-reach, length-set table at (jobAt order k)) (omega (arith, lower, a .reach-in k l))
               reach-next i m (no f) = rw (getD-set-other reach k i v 0 f, length-set table at (jobAt order k)) (a .reach-in i m)
 
-              pub asking-on : Asking x first from order lost₀ reach₀ ends₀ table₀ ranks₀ slots₀ held₀ lost (set reach k v) ends (set table at (jobAt order k)) (set ranks noted k) (set slots noted at) (set held noted (getD table at 0)) (noted + 1) (getD reach k 0 - 1) (k + 1)
+              lower-next : (i : ℕ) → i < noted + 1 → Dec (i ≡ noted) → getD (set ranks noted k) i 0 < k + 1
+              lower-next i m (yes e) = rw (e, getD-set-same ranks noted k 0 (omega (arith, asking-room, a .notes .room .ranks-long))) (omega arith)
+              lower-next i m (no f) = rw (getD-set-other ranks noted i k 0 f) (omega (arith, a .lower i (omega arith)))
+
+              last-next : (i : ℕ) → k + 1 ≤ i → i < length from → getD lost i 0 ≡ 0 → 0 < getD (set reach k v) i 0 →
+                  getD (set table at (jobAt order k)) (getD (set reach k v) i 0 - 1) 0 ≡ getD order i 0
+              last-next i m b z =
+                  rw (getD-set-other reach k i v 0 (omega arith)) (kept-on i (omega arith) b z)
+
+              pub asking-on : Asking x first from order lost₀ reach₀ ends₀ table₀ ranks₀ slots₀ lost (set reach k v) ends (set table at (jobAt order k)) (set ranks noted k) (set slots noted at) (noted + 1) (getD reach k 0 - 1) (k + 1)
               asking-on =
                   record {
                     can = a .can;
@@ -206,8 +247,9 @@ module _ {x first : ℕ} {from order lost₀ reach₀ ends₀ table₀ ranks₀ 
                     same-table = length-set table at (jobAt order k) ∙ a .same-table;
                     same-ranks = length-set ranks noted k ∙ a .same-ranks;
                     same-slots = length-set slots noted at ∙ a .same-slots;
-                    same-held = length-set held noted (getD table at 0) ∙ a .same-held;
                     reach-in = λ i m. reach-next i m (ℕ-discrete i k);
-                    notes = noted-next (a .notes) k v (jobAt order k) asking-room asking-in-reach (a .inside) (omega arith);
+                    lower = λ i m. lower-next i m (ℕ-discrete i noted);
+                    last = last-next;
+                    notes = noted-next (a .notes) k v asking-room (a .inside) (omega arith) (kept-on k (omega arith) l (omega arith) (omega arith));
                     rest = rw (is, add-one) (rw (turns-left (length from) k l) at (a .rest) ∙ tried-on from order table lost reach ends k at (length from - suc k) open-here none);
                   }

@@ -3,8 +3,16 @@ use Prim.Native.Nat.{ℕ, _-_, _≤_, _<_}
 use mathlib.Core.Path.{_≡_}
 use mathlib.Core.Bool.{Bool, true, false}
 use mathlib.Core.List.{List}
+use mathlib.Core.Logic.{_≢_}
 use lib.ListN.{length, getD}
 use Rattle.edf.specs.Chain.Ranks.{RankBooks, Tried, tried}
+
+-- some slot below `below` holds the byte
+pub record Stops (byte below : ℕ) (table : List ℕ) : Type 0 where
+  pub within : below ≤ length table
+  pub slot : ℕ
+  pub lower : slot < below
+  pub holds : getD table slot 0 ≡ byte
 
 -- rank k can gain slot t
 pub record Gainable (k t : ℕ) (order lost reach ends table : List ℕ) : Type 0 where
@@ -23,7 +31,8 @@ pub record Booked (books : RankBooks) (table lost reach ends : List ℕ) : Type 
   pub reach-is : reach ≡ books .reach
   pub ends-is : ends ≡ books .ends
 
--- slot x lies in the table, and no rank reaches behind it
+-- slot x lies in the table and sleeps, and no rank reaches behind the table; a rank that has lost no unit holds the slot that its reach ends at,
+-- and the ranks are different jobs
 pub record Tryable (x first : ℕ) (from order lost reach ends table : List ℕ) : Type 0 where
   pub few : length from ≤ 64
   pub order-long : length from ≤ length order
@@ -34,6 +43,10 @@ pub record Tryable (x first : ℕ) (from order lost reach ends table : List ℕ)
   pub inside : x < length table
   pub within : first ≤ length from
   pub reach-in : (k : ℕ) → k < length from → getD reach k 0 ≤ length table
+  pub asleep : getD table x 0 ≡ 255
+  pub last : (k : ℕ) → k < length from → getD lost k 0 ≡ 0 → 0 < getD reach k 0 → getD table (getD reach k 0 - 1) 0 ≡ getD order k 0
+  pub apart : (i k : ℕ) → i < k → k < length from → getD order i 0 ≢ getD order k 0
+  pub jobs : (k : ℕ) → k < length from → getD order k 0 < 255
 
 -- the ranks from `first` on are asked
 abbrev pub attempt : ℕ → ℕ → List ℕ → List ℕ → List ℕ → List ℕ → List ℕ → List ℕ → Tried

@@ -1,26 +1,24 @@
 // Tries to wake a sleeping slot, without a second run: the slot takes the first job by rank that reaches it, and each job that has lost no
 // unit hands on its last slot in turn, until a lost unit is gained. If none is, what was changed on the way is put back.
 ghost use mathlib.Core.Path.{_≡_};
-ghost use Prim.Native.Nat.{_+_, _≤_, _<_, max};
-ghost use lib.ListN.{length};
+ghost use Prim.Native.Nat.{_+_, _<_, max};
 ghost use Rattle.edf.specs.Chain.{endBelow};
 ghost use Rattle.edf.specs.Chain.Ranks.{gainedAt};
-ghost use Rattle.chain.specs.Books.{Gainable, Booked, Tryable, Attempted};
-ghost use Rattle.chain.specs.Notes.{Noteable, Undoable, Undone};
+ghost use Rattle.chain.specs.Books.{Stops, Gainable, Booked, Tryable, Attempted};
+ghost use Rattle.chain.specs.Notes.{Noteable, slotHeld, Recallable, Undoable, Undone};
 
-// One more than the last slot below `below` that holds the byte, or 0.
+const ASLEEP: u8 = 255;
+
+// One more than the last slot below `below` that holds the byte; there is one, so the search needs no test for the table's start.
 fn end_below(table: &[u8], byte: u8, below: usize) -> usize
-    requires { ⌜ below ≤ length (now table) ⌝ }
+    requires { ⌜ Stops byte below (now table) ⌝ }
     ensures { λ r. ⌜ r ≡ endBelow byte below (now (table .entry)) ⌝ }
 {
     let mut s = below;
-    while 0 < s {
-        if table[s - 1] == byte {
-            return s;
-        }
+    while table[s - 1] != byte {
         s -= 1;
     }
-    0
+    s
 }
 
 fn later(end: u16, at: usize) -> u16
@@ -56,18 +54,30 @@ fn gain(
     }
 }
 
+// What the slot of note i held: it slept if the note is the first, else the rank noted before had just given it up.
+fn held(i: usize, ranks: &[u8], order: &[u8]) -> u8
+    requires { ⌜ Recallable i (now ranks) (now order) ⌝ }
+    ensures { λ r. ⌜ r ≡ slotHeld i (now (ranks .entry)) (now (order .entry)) ⌝ }
+{
+    if i == 0 {
+        ASLEEP
+    } else {
+        order[ranks[i - 1] as usize]
+    }
+}
+
 // Puts back what the first `noted` notes say, the last one first; the last rank of them gave up slot `last`.
 fn undo(
     noted: usize,
     last: usize,
     ranks: &[u8],
     slots: &[u16],
-    held: &[u8],
+    order: &[u8],
     reach: &mut [u16],
     table: &mut [u8],
 )
-    requires { ⌜ Undoable noted last (now ranks) (now slots) (now held) (now reach) (now table) ⌝ }
-    ensures { λ r. ⌜ Undone noted last (now (ranks .entry)) (now (slots .entry)) (now (held .entry)) (now (reach .entry)) (now (table .entry)) (now (reach .exit)) (now (table .exit)) ⌝ }
+    requires { ⌜ Undoable noted last (now ranks) (now slots) (now order) (now reach) (now table) ⌝ }
+    ensures { λ r. ⌜ Undone noted last (now (ranks .entry)) (now (slots .entry)) (now (order .entry)) (now (reach .entry)) (now (table .entry)) (now (reach .exit)) (now (table .exit)) ⌝ }
 {
     let mut at = last;
     let mut i = noted;
@@ -75,11 +85,11 @@ fn undo(
         i -= 1;
         reach[ranks[i] as usize] = (at + 1) as u16;
         at = slots[i] as usize;
-        table[at] = held[i];
+        table[at] = held(i, ranks, order);
     }
 }
 
-// Wakes slot x if that helps, and says whether it does; no rank before `first` is asked. The three lists of notes are lent for the call only:
+// Wakes slot x if that helps, and says whether it does; no rank before `first` is asked. The two lists of notes are lent for the call only:
 // what they hold at first is never read, and what they hold afterwards is left open. Lists of its own would have to be zeroed on every call.
 pub fn wake(
     x: usize,
@@ -92,9 +102,8 @@ pub fn wake(
     table: &mut [u8],
     ranks: &mut [u8],
     slots: &mut [u16],
-    held: &mut [u8],
 ) -> bool
-    requires { ⌜ Tryable x first (now from) (now order) (now lost) (now reach) (now ends) (now table) × Noteable (now ranks) (now slots) (now held) ⌝ }
+    requires { ⌜ Tryable x first (now from) (now order) (now lost) (now reach) (now ends) (now table) × Noteable (now ranks) (now slots) ⌝ }
     ensures { λ r. ⌜ Attempted x first (now (from .entry)) (now (order .entry)) (now (lost .entry)) (now (reach .entry)) (now (ends .entry)) (now (table .entry)) r (now (lost .exit)) (now (reach .exit)) (now (ends .exit)) (now (table .exit)) ⌝ }
 {
     let mut noted = 0;
@@ -115,7 +124,6 @@ pub fn wake(
         }
         ranks[noted] = k as u8;
         slots[noted] = at as u16;
-        held[noted] = table[at];
         noted += 1;
         let byte = order[k];
         table[at] = byte;
@@ -123,6 +131,6 @@ pub fn wake(
         reach[k] = end_below(table, byte, at) as u16;
         k += 1;
     }
-    undo(noted, at, ranks, slots, held, reach, table);
+    undo(noted, at, ranks, slots, order, reach, table);
     false
 }

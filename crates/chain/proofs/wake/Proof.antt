@@ -1,5 +1,5 @@
 -- `chain::wake` meets its contract: one pass over the ranks is the chain, and its notes put back what it changed.
-use Rattle.chain.proofs.Asking.{Asking, asking-start, asking-end, asking-lost-long, asking-ends-long, asking-undoable, asking-in-reach, asking-in-lost, asking-early, asking-behind, asking-gainable, asking-gained, asking-below, asking-fits, asking-on}
+use Rattle.chain.proofs.Asking.{Asking, asking-start, asking-end, asking-lost-long, asking-ends-long, asking-undoable, asking-in-reach, asking-in-lost, asking-early, asking-behind, asking-gainable, asking-gained, asking-stops, asking-fits, asking-on}
 use lib.ListN.{length}
 use Prim.Native.Nat.{_-_}
 use native.Mathlib.Omega.{arith}
@@ -8,16 +8,16 @@ use Rattle.chain.proofs.wake.Statement.{statement}
 use Rattle.chain.proofs.wake.Tie as tie
 
 abbrev Inv-loop : tie.InvT-loop
-Inv-loop x first from order lost₀ reach₀ ends₀ table₀ ranks₀ slots₀ held₀ noted₀ at₀ k₀ lost reach ends table ranks slots held noted at k =
-    Asking x first from order lost₀ reach₀ ends₀ table₀ ranks₀ slots₀ held₀ lost reach ends table ranks slots held noted at k
+Inv-loop x first from order lost₀ reach₀ ends₀ table₀ ranks₀ slots₀ noted₀ at₀ k₀ lost reach ends table ranks slots noted at k =
+    Asking x first from order lost₀ reach₀ ends₀ table₀ ranks₀ slots₀ lost reach ends table ranks slots noted at k
 
 abbrev μ-loop : tie.MeasureT-loop
-μ-loop x first from order lost₀ reach₀ ends₀ table₀ ranks₀ slots₀ held₀ noted₀ at₀ k₀ lost reach ends table ranks slots held noted at k =
+μ-loop x first from order lost₀ reach₀ ends₀ table₀ ranks₀ slots₀ noted₀ at₀ k₀ lost reach ends table ranks slots noted at k =
     length from - k
 
 loop-holds : tie.Need-loop-holds Inv-loop μ-loop
 loop-holds c =
-    let given = c .before .before .before .before .before .before .before .before .before .pre in
+    let given = c .before .before .before .before .before .before .before .before .pre in
     asking-start (given .0) (given .1)
 
 mul-if1 : tie.Need-mul-if1 Inv-loop μ-loop
@@ -49,7 +49,7 @@ slice-read-if2 c =
     asking-in-reach (turn .before .loop .inv) (turn .loop-test .taken)
 
 cast-if2 : tie.Need-cast-if2 Inv-loop μ-loop
-cast-if2 c = omega (arith, c .slice-known8 .given (c .before .before .before .before .loop .k))
+cast-if2 c = omega (arith, c .slice-known7 .given (c .before .before .before .before .loop .k))
 
 add-k-2 : tie.Need-add-k-2 Inv-loop μ-loop
 add-k-2 c = search needs
@@ -94,9 +94,6 @@ same-length-5 c = search needs
 same-length-6 : tie.Need-same-length-6 Inv-loop μ-loop
 same-length-6 c = search needs
 
-same-length-7 : tie.Need-same-length-7 Inv-loop μ-loop
-same-length-7 c = search needs
-
 returns : tie.Need-returns Inv-loop μ-loop
 returns c =
     let met = c .before .before .before .before .before .before .before .before .before .before .before .before .before in
@@ -118,12 +115,6 @@ mul-slots c = search needs
 slice-write-slots : tie.Need-slice-write-slots Inv-loop μ-loop
 slice-write-slots c = search needs
 
-slice-read-held : tie.Need-slice-read-held Inv-loop μ-loop
-slice-read-held c = search needs
-
-slice-write-held : tie.Need-slice-write-held Inv-loop μ-loop
-slice-write-held c = search needs
-
 add-noted : tie.Need-add-noted Inv-loop μ-loop
 add-noted c = search needs
 
@@ -138,25 +129,25 @@ mul-at c = search needs
 
 slice-read-at : tie.Need-slice-read-at Inv-loop μ-loop
 slice-read-at c =
-    let met = c .before .before .before in
+    let met = c .before .before in
     let turn = met .before .before .before .before .before .before in
     asking-in-reach (turn .before .loop .inv) (turn .loop-test .taken)
 
 cast-at : tie.Need-cast-at Inv-loop μ-loop
-cast-at c = omega (arith, c .slice-known15 .given (c .before .before .before .before .before .before .before .before .before .before .loop .k))
+cast-at c = omega (arith, c .slice-known13 .given (c .before .before .before .before .before .before .before .before .before .loop .k))
 
 sub-at : tie.Need-sub-at Inv-loop μ-loop
 sub-at c = search needs
 
 end-below-requires : tie.Need-end-below-requires Inv-loop μ-loop
 end-below-requires c κs =
-    let met = c .before .before .before .before in
+    let met = c .before .before .before in
     let turn = met .before .before .before .before .before .before in
-    asking-below (turn .before .loop .inv) (turn .loop-test .taken) (met .before .before .before .before .if1 .left) (met .before .before .if2 .left) (met .if3 .left)
+    asking-stops (turn .before .loop .inv) (turn .loop-test .taken) (met .before .before .before .before .if1 .left) (met .before .before .if2 .left) (met .if3 .left)
 
 cast-reach : tie.Need-cast-reach Inv-loop μ-loop
 cast-reach c =
-    let met = c .before .before .before .before .before in
+    let met = c .before .before .before .before in
     let turn = met .before .before .before .before .before .before in
     let fits = asking-fits (turn .before .loop .inv) (turn .loop-test .taken) (met .before .before .before .before .if1 .left) (met .before .before .if2 .left) (met .if3 .left) _ (c .end-below .ensures) in
     omega arith
@@ -166,7 +157,7 @@ mul-reach c = search needs
 
 slice-write-reach : tie.Need-slice-write-reach Inv-loop μ-loop
 slice-write-reach c =
-    let met = c .before .before .before .before .before in
+    let met = c .before .before .before .before in
     let turn = met .before .before .before .before .before .before in
     asking-in-reach (turn .before .loop .inv) (turn .loop-test .taken)
 
@@ -178,21 +169,24 @@ loop-less-3 c = search needs
 
 loop-again-3 : tie.Need-loop-again-3 Inv-loop μ-loop
 loop-again-3 c =
-    let met = c .before .before .before .before .before in
+    let met = c .before .before .before .before in
     let turn = met .before .before .before .before .before .before in
     asking-on (turn .before .loop .inv) (turn .loop-test .taken) (met .before .before .before .before .if1 .left) (met .before .before .if2 .left) (met .if3 .left) _ (c .end-below .ensures)
 
 undo-requires : tie.Need-undo-requires Inv-loop μ-loop
-undo-requires c κs = asking-undoable (c .before .before .before .before .before .before .loop .inv)
+undo-requires c κs = asking-undoable (c .before .before .before .before .before .loop .inv)
+
+same-length-7 : tie.Need-same-length-7 Inv-loop μ-loop
+same-length-7 c = search (needs, asking-lost-long (c .before .before .before .before .before .before .before .before .before .before .loop .inv))
 
 same-length-8 : tie.Need-same-length-8 Inv-loop μ-loop
-same-length-8 c = search (needs, asking-lost-long (c .before .before .before .before .before .before .before .before .before .before .before .loop .inv))
+same-length-8 c = search needs
 
 same-length-9 : tie.Need-same-length-9 Inv-loop μ-loop
-same-length-9 c = search needs
+same-length-9 c = search (needs, asking-ends-long (c .before .before .before .before .before .before .before .before .before .before .loop .inv))
 
 same-length-10 : tie.Need-same-length-10 Inv-loop μ-loop
-same-length-10 c = search (needs, asking-ends-long (c .before .before .before .before .before .before .before .before .before .before .before .loop .inv))
+same-length-10 c = search needs
 
 same-length-11 : tie.Need-same-length-11 Inv-loop μ-loop
 same-length-11 c = search needs
@@ -200,15 +194,9 @@ same-length-11 c = search needs
 same-length-12 : tie.Need-same-length-12 Inv-loop μ-loop
 same-length-12 c = search needs
 
-same-length-13 : tie.Need-same-length-13 Inv-loop μ-loop
-same-length-13 c = search needs
-
-same-length-14 : tie.Need-same-length-14 Inv-loop μ-loop
-same-length-14 c = search needs
-
 returns-2 : tie.Need-returns-2 Inv-loop μ-loop
 returns-2 c =
-    let left = c .before .before .before .before .before .before .before .before .before .before in
+    let left = c .before .before .before .before .before .before .before .before .before in
     asking-end (left .before .loop .inv) (left .loop-test .left) _ _ (c .before .before .before .before .undo .ensures)
 
 pub wake-spec : {M : Type 1} → statement M
@@ -239,15 +227,12 @@ wake-spec =
     same-length-4
     same-length-5
     same-length-6
-    same-length-7
     returns
     cast-ranks
     slice-write-ranks
     cast-slots
     mul-slots
     slice-write-slots
-    slice-read-held
-    slice-write-held
     add-noted
     shared-slice-read-byte
     slice-write-table
@@ -263,11 +248,10 @@ wake-spec =
     loop-less-3
     loop-again-3
     undo-requires
+    same-length-7
     same-length-8
     same-length-9
     same-length-10
     same-length-11
     same-length-12
-    same-length-13
-    same-length-14
     returns-2)
