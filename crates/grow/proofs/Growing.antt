@@ -5,15 +5,18 @@ use mathlib.Core.Bool.{Bool, true, false, not, _&&_}
 use mathlib.Core.List.{List}
 use native.Mathlib.Omega.{arith}
 use native.Mathlib.Decide.{decLt, ℕ-discrete}
+use lib.Dec.{eqb}
 use lib.ListN.{length, getD, set, length-set}
 use lib.Seq.{set-set, set-getD}
-use borrow.Author.Tests.{not-true}
+use borrow.Author.Tests.{not-true, not-false, eqb-true}
 use Rattle.sched.specs.Bounded.Laws.{and-true}
 use Rattle.sched.specs.Jobs.{Jobs, count, deadline}
 use Rattle.sched.specs.Slots.{awake, awakeOf, touches, wakeSlot}
+use Rattle.sched.specs.Slots.Laws.{awake-of}
 use Rattle.sched.specs.Steps.{helps, wakes}
 use Rattle.edf.specs.Chain.{jobAt, RankedJobs}
-use Rattle.edf.specs.Chain.Keeping.{kept-long}
+use Rattle.edf.specs.Chain.Ahead.{ranks-differ}
+use Rattle.edf.specs.Chain.Keeping.{kept-long, kept-ends}
 use Rattle.edf.specs.Chain.Missing.{kept-set}
 use Rattle.edf.specs.Chain.Ranks.{RankBooks, tried}
 use Rattle.edf.specs.Chain.Ranks.Start.{reach-in}
@@ -43,6 +46,17 @@ module _ {J : Jobs} {from due order lost reach ends table : List ℕ} {short add
       go (yes u) = omega (arith, g .kept .ranked .reach-due k l u)
       go (no u) = omega (arith, g .kept .ranked .reach-end k l (omega arith), g .kept .ranked .in-time k l)
 
+  -- the last slot of a rank that has lost nothing holds its job
+  last-slot : (k : ℕ) → k < count J → getD lost k 0 ≡ 0 → 0 < getD reach k 0 → getD table (getD reach k 0 - 1) 0 ≡ jobAt order k
+  last-slot k l z u =
+      let none : getD (g .kept .lost) (jobAt order k) 0 ≡ 0 = sym (g .kept .ranked .lost-is k l) ∙ z in
+      let same = g .kept .ranked .reach-end k l none in
+      let e = kept-ends (g .kept .kept) (jobAt order k) (g .ranks .known k l) in
+      ap (λ (r : ℕ). getD table (r - 1) 0) same ∙ e .holds (getD (g .kept .ends) (jobAt order k) 0 - 1) (omega arith)
+
+  asleep-byte : cursor < length table → awake (awakeOf table) cursor ≡ false → getD table cursor 0 ≡ 255
+  asleep-byte l s = eqb-true _ _ (not-false (eqb (getD table cursor 0) 255) (sym (awake-of table cursor l) ∙ s))
+
   module _ {first : ℕ} (f : EndBefore due cursor first) where
     first-within : first ≤ count J
     first-within = omega (arith, f .within, g .due-long)
@@ -63,23 +77,27 @@ module _ {J : Jobs} {from due order lost reach ends table : List ℕ} {short add
         sooner (no q) = g .ranks .rising i (first - 1) (omega arith) (omega (arith, first-within)) .sooner
 
     module _ (l : 0 < short) where
-      pub growing-tryable : Tryable cursor first from order lost reach ends table
-      growing-tryable =
-          record {
-            few = omega (arith, g .from-long, g .way .passes .few);
-            order-long = omega (arith, g .from-long, g .ranks .long);
-            lost-long = omega (arith, g .from-long, g .kept .ranked .lost-long);
-            reach-long = omega (arith, g .from-long, g .kept .ranked .reach-long);
-            ends-long = omega (arith, g .from-long, g .kept .ranked .ends-long);
-            small = omega (arith, table-long, g .way .passes .high);
-            inside = growing-inside l;
-            within = omega (arith, first-within, g .from-long);
-            reach-in = λ k m. reach-in (g .way .passes) (g .kept .kept) (g .ranks) (g .kept .ranked) k (omega (arith, g .from-long));
-          }
-
       module _ (b : Bool) (next : b ≡ not (awake (awakeOf table) cursor) && touches (awakeOf table) cursor) (o : b ≡ true) where
         sleeps : awake (awakeOf table) cursor ≡ false
         sleeps = not-true (awake (awakeOf table) cursor) (and-true (not (awake (awakeOf table) cursor)) (touches (awakeOf table) cursor) (sym next ∙ o) .0)
+
+        pub growing-tryable : Tryable cursor first from order lost reach ends table
+        growing-tryable =
+            record {
+              few = omega (arith, g .from-long, g .way .passes .few);
+              order-long = omega (arith, g .from-long, g .ranks .long);
+              lost-long = omega (arith, g .from-long, g .kept .ranked .lost-long);
+              reach-long = omega (arith, g .from-long, g .kept .ranked .reach-long);
+              ends-long = omega (arith, g .from-long, g .kept .ranked .ends-long);
+              small = omega (arith, table-long, g .way .passes .high);
+              inside = growing-inside l;
+              within = omega (arith, first-within, g .from-long);
+              reach-in = λ k m. reach-in (g .way .passes) (g .kept .kept) (g .ranks) (g .kept .ranked) k (omega (arith, g .from-long));
+              asleep = asleep-byte (growing-inside l) sleeps;
+              last = λ k m. last-slot k (omega (arith, g .from-long));
+              apart = λ i k a m. ranks-differ (g .ranks) i k a (omega (arith, g .from-long));
+              jobs = λ k m. omega (arith, g .ranks .known k (omega (arith, g .from-long)), g .way .passes .few);
+            }
 
         tells : helps J (awakeOf table) cursor ≡ attempt cursor first from order lost reach ends table .helped
         tells =
@@ -160,7 +178,7 @@ pub growing-end : {J : Jobs} {from due order lost reach ends table : List ℕ} {
 growing-end g l = way-end (g .way) l
 
 -- between two turns of either loop: the lists keep their lengths
-pub record Grown (J : Jobs) (from due order lost₀ reach₀ ends₀ table₀ lost reach ends table ranks slots held : List ℕ) (short added cursor first : ℕ) : Type 0 where
+pub record Grown (J : Jobs) (from due order lost₀ reach₀ ends₀ table₀ lost reach ends table ranks slots : List ℕ) (short added cursor first : ℕ) : Type 0 where
   pub now : Growing J (awakeOf table) from due order lost reach ends table short added cursor
   pub first-in : first ≤ length due
   pub same-lost : length lost ≡ length lost₀
@@ -169,9 +187,8 @@ pub record Grown (J : Jobs) (from due order lost₀ reach₀ ends₀ table₀ lo
   pub same-table : length table ≡ length table₀
   pub ranks-long : length ranks ≡ 64
   pub slots-long : length slots ≡ 64
-  pub held-long : length held ≡ 64
 
-pub grown-notes : {J : Jobs} {from due order lost₀ reach₀ ends₀ table₀ lost reach ends table ranks slots held : List ℕ} {short added cursor first : ℕ} →
-    Grown J from due order lost₀ reach₀ ends₀ table₀ lost reach ends table ranks slots held short added cursor first → Noteable ranks slots held
+pub grown-notes : {J : Jobs} {from due order lost₀ reach₀ ends₀ table₀ lost reach ends table ranks slots : List ℕ} {short added cursor first : ℕ} →
+    Grown J from due order lost₀ reach₀ ends₀ table₀ lost reach ends table ranks slots short added cursor first → Noteable ranks slots
 grown-notes g =
-    record { ranks-long = omega (arith, g .ranks-long); slots-long = omega (arith, g .slots-long); held-long = omega (arith, g .held-long) }
+    record { ranks-long = omega (arith, g .ranks-long); slots-long = omega (arith, g .slots-long) }

@@ -106,7 +106,6 @@ pub fn grow(
 {
     let mut ranks = [0u8; 64];
     let mut slots = [0u16; 64];
-    let mut held = [0u8; 64];
     let mut short = shortfall;
     let mut cursor = 0;
     let mut first = 0;
@@ -116,8 +115,16 @@ pub fn grow(
             if is_next(table, cursor) {
                 first = first_due(due, cursor, first);
                 if chain::wake(
-                    cursor, first, from, order, lost, reach, ends, table, &mut ranks, &mut slots,
-                    &mut held,
+                    cursor,
+                    first,
+                    from,
+                    order,
+                    lost,
+                    reach,
+                    ends,
+                    table,
+                    &mut ranks,
+                    &mut slots,
                 ) {
                     break 'search cursor;
                 }

@@ -11,19 +11,19 @@ use Rattle.grow.proofs.grow.Statement.{statement}
 use Rattle.grow.proofs.grow.Tie as tie
 
 abbrev Inv-search : tie.InvT-search
-Inv-search h q releases deadlines volumes from due order lost₀ reach₀ ends₀ table₀ shortfall ranks₀ slots₀ held₀ short cursor₀ first₀ added lost reach ends table ranks slots held cursor first =
-    Grown (jobsOf h q releases deadlines volumes) from due order lost₀ reach₀ ends₀ table₀ lost reach ends table ranks slots held short added cursor first
+Inv-search h q releases deadlines volumes from due order lost₀ reach₀ ends₀ table₀ shortfall ranks₀ slots₀ short cursor₀ first₀ added lost reach ends table ranks slots cursor first =
+    Grown (jobsOf h q releases deadlines volumes) from due order lost₀ reach₀ ends₀ table₀ lost reach ends table ranks slots short added cursor first
 
 abbrev μ-search : tie.MeasureT-search
-μ-search h q releases deadlines volumes from due order lost₀ reach₀ ends₀ table₀ shortfall ranks₀ slots₀ held₀ short cursor₀ first₀ added lost reach ends table ranks slots held cursor first =
+μ-search h q releases deadlines volumes from due order lost₀ reach₀ ends₀ table₀ shortfall ranks₀ slots₀ short cursor₀ first₀ added lost reach ends table ranks slots cursor first =
     length table₀ - cursor
 
 abbrev Inv-loop : tie.InvT-loop
-Inv-loop h q releases deadlines volumes from due order lost₀ reach₀ ends₀ table₀ shortfall ranks₀ slots₀ held₀ short₀ cursor₀ first₀ added₀ lost reach ends table ranks slots held short cursor first added =
-    Grown (jobsOf h q releases deadlines volumes) from due order lost₀ reach₀ ends₀ table₀ lost reach ends table ranks slots held short added cursor first
+Inv-loop h q releases deadlines volumes from due order lost₀ reach₀ ends₀ table₀ shortfall ranks₀ slots₀ short₀ cursor₀ first₀ added₀ lost reach ends table ranks slots short cursor first added =
+    Grown (jobsOf h q releases deadlines volumes) from due order lost₀ reach₀ ends₀ table₀ lost reach ends table ranks slots short added cursor first
 
 abbrev μ-loop : tie.MeasureT-loop
-μ-loop h q releases deadlines volumes from due order lost₀ reach₀ ends₀ table₀ shortfall ranks₀ slots₀ held₀ short₀ cursor₀ first₀ added₀ lost reach ends table ranks slots held short cursor first added =
+μ-loop h q releases deadlines volumes from due order lost₀ reach₀ ends₀ table₀ shortfall ranks₀ slots₀ short₀ cursor₀ first₀ added₀ lost reach ends table ranks slots short cursor first added =
     short
 
 loop-holds : tie.Need-loop-holds Inv-search μ-search Inv-loop μ-loop
@@ -37,13 +37,12 @@ loop-holds c =
       same-table = refl;
       ranks-long = refl;
       slots-long = refl;
-      held-long = refl;
     }
 
 search-holds : tie.Need-search-holds Inv-search μ-search Inv-loop μ-loop
 search-holds c =
     let g = c .before .loop .inv in
-    record { now = g .now; first-in = g .first-in; same-lost = refl; same-reach = refl; same-ends = refl; same-table = refl; ranks-long = g .ranks-long; slots-long = g .slots-long; held-long = g .held-long }
+    record { now = g .now; first-in = g .first-in; same-lost = refl; same-reach = refl; same-ends = refl; same-table = refl; ranks-long = g .ranks-long; slots-long = g .slots-long }
 
 is-next-requires : tie.Need-is-next-requires Inv-search μ-search Inv-loop μ-loop
 is-next-requires c κs = growing-inside (c .before .search .inv .now) (c .before .before .loop-test .taken)
@@ -57,26 +56,24 @@ slice-aggregate-wake c = search needs
 slice-aggregate-wake-2 : tie.Need-slice-aggregate-wake-2 Inv-search μ-search Inv-loop μ-loop
 slice-aggregate-wake-2 c = search needs
 
-slice-aggregate-wake-3 : tie.Need-slice-aggregate-wake-3 Inv-search μ-search Inv-loop μ-loop
-slice-aggregate-wake-3 c = search needs
-
 wake-requires : tie.Need-wake-requires Inv-search μ-search Inv-loop μ-loop
 wake-requires c κs =
-    let s = c .before .before .before .before .before .before .before .before .before .before .before in
-    (growing-tryable (s .search .inv .now) (c .before .before .before .before .before .before .before .first-due .ensures) (s .before .loop-test .taken), grown-notes (s .search .inv))
+    let found = c .before .before .before .before .before .before in
+    let s = found .before .before .before .before in
+    (growing-tryable (s .search .inv .now) (found .first-due .ensures) (s .before .loop-test .taken) _ (found .before .before .is-next .ensures) (found .before .if1 .taken), grown-notes (s .search .inv))
 
 add-cursor : tie.Need-add-cursor Inv-search μ-search Inv-loop μ-loop
-add-cursor c = let s = c .before .before .before .before .before .before .before .before .before .before .before .before .before .before .before .before .before .before .before .before .before .before .before .before in omega (arith, growing-small (s .search .inv .now) (s .before .loop-test .taken))
+add-cursor c = let s = c .before .before .before .before .before .before .before .before .before .before .before .before .before .before .before .before .before .before .before .before .before .before in omega (arith, growing-small (s .search .inv .now) (s .before .loop-test .taken))
 
 search-less : tie.Need-search-less Inv-search μ-search Inv-loop μ-loop
 search-less c =
-    let s = c .before .before .before .before .before .before .before .before .before .before .before .before .before .before .before .before .before .before .before .before .before .before .before .before in
+    let s = c .before .before .before .before .before .before .before .before .before .before .before .before .before .before .before .before .before .before .before .before .before .before in
     omega (arith, growing-inside (s .search .inv .now) (s .before .loop-test .taken), s .search .inv .same-table)
 
 search-again : tie.Need-search-again Inv-search μ-search Inv-loop μ-loop
 search-again c =
-    let woken = c .before .before .before .before .before .before .before .before .before .before .before .before in
-    let found = woken .before .before .before .before .before .before .before .before in
+    let woken = c .before .before .before .before .before .before .before .before .before .before .before in
+    let found = woken .before .before .before .before .before .before .before in
     let s = found .before .before .before .before in
     record {
       now =
@@ -89,7 +86,6 @@ search-again c =
       same-table = woken .wake .kept .1 .1 .1 .1 .1 .1 .1 .0 ∙ s .search .inv .same-table;
       ranks-long = woken .wake .kept .1 .1 .1 .1 .1 .1 .1 .1 .0 ∙ s .search .inv .ranks-long;
       slots-long = woken .wake .kept .1 .1 .1 .1 .1 .1 .1 .1 .1 .0 ∙ s .search .inv .slots-long;
-      held-long = woken .wake .kept .1 .1 .1 .1 .1 .1 .1 .1 .1 .1 .0 ∙ s .search .inv .held-long;
     }
 
 add-cursor-2 : tie.Need-add-cursor-2 Inv-search μ-search Inv-loop μ-loop
@@ -112,18 +108,17 @@ search-again-2 c =
       same-table = s .search .inv .same-table;
       ranks-long = s .search .inv .ranks-long;
       slots-long = s .search .inv .slots-long;
-      held-long = s .search .inv .held-long;
     }
 
 go-on-from-requires : tie.Need-go-on-from-requires Inv-search μ-search Inv-loop μ-loop
 go-on-from-requires c κs =
-    let woken = c .before .before .before .before .before .before .before .before .before .before .before .before .before in
-    let s = woken .before .before .before .before .before .before .before .before .before .before .before .before in
+    let woken = c .before .before .before .before .before .before .before .before .before .before .before .before in
+    let s = woken .before .before .before .before .before .before .before .before .before .before .before in
     omega (arith, growing-inside (s .search .inv .now) (s .before .loop-test .taken), woken .wake .kept .1 .1 .1 .1 .1 .1 .1 .0)
 
 add-added : tie.Need-add-added Inv-search μ-search Inv-loop μ-loop
 add-added c =
-    let s = c .before .before .before .before .before .before .before .before .before .before .before .before .before .before .before .before .before .before .before .before .before .before .before .before .before .before in
+    let s = c .before .before .before .before .before .before .before .before .before .before .before .before .before .before .before .before .before .before .before .before .before .before .before .before in
     let start = s .before .before .before .before .before .before .before .before .before .before .before .before .before in
     omega (arith, s .search .inv .now .way .in-all, start .pre .way .in-all, s .before .loop-test .taken)
 
@@ -135,8 +130,8 @@ loop-less c = search needs
 
 loop-again : tie.Need-loop-again Inv-search μ-search Inv-loop μ-loop
 loop-again c =
-    let woken = c .before .before .before .before .before .before .before .before .before .before .before .before .before .before in
-    let found = woken .before .before .before .before .before .before .before .before in
+    let woken = c .before .before .before .before .before .before .before .before .before .before .before .before .before in
+    let found = woken .before .before .before .before .before .before .before in
     let s = found .before .before .before .before in
     let outer = s .before .before .loop .inv in
     record {
@@ -150,7 +145,6 @@ loop-again c =
       same-table = woken .wake .kept .1 .1 .1 .1 .1 .1 .1 .0 ∙ s .search .inv .same-table ∙ outer .same-table;
       ranks-long = woken .wake .kept .1 .1 .1 .1 .1 .1 .1 .1 .0 ∙ s .search .inv .ranks-long;
       slots-long = woken .wake .kept .1 .1 .1 .1 .1 .1 .1 .1 .1 .0 ∙ s .search .inv .slots-long;
-      held-long = woken .wake .kept .1 .1 .1 .1 .1 .1 .1 .1 .1 .1 .0 ∙ s .search .inv .held-long;
     }
 
 same-length : tie.Need-same-length Inv-search μ-search Inv-loop μ-loop
@@ -182,7 +176,6 @@ grow-spec =
     first-due-requires
     slice-aggregate-wake
     slice-aggregate-wake-2
-    slice-aggregate-wake-3
     wake-requires
     add-cursor
     search-less
