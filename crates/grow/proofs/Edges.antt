@@ -6,15 +6,26 @@ use mathlib.Core.List.{List}
 use mathlib.Core.Logic.{_≢_}
 use native.Mathlib.Omega.{arith}
 use native.Mathlib.Numerals.{add-one}
-use lib.ListN.{length, set, List·getD-eq-default}
+use native.Mathlib.Decide.{ℕ-discrete}
+use borrow.Author.Tests.{eq-eqb, ne-eqb}
+use lib.ListN.{length, getD, set, List·getD-eq-default}
 use lib.Seq.{getD-set-same, getD-set-other}
 use Rattle.sched.specs.Bounded.Laws.{by-bool}
 use Rattle.sched.specs.Slots.{awake, awakeOf, touches}
-use Rattle.sched.specs.Slots.Laws.{awake-of-length}
+use Rattle.sched.specs.Slots.Laws.{awake-of, awake-of-length}
+use Rattle.grow.specs.Turns.{Alone}
 use Rattle.skeleton.specs.Waking.Cursor.{cursorAfter}
 
 pub asleep-past : (table : List ℕ) (t : ℕ) → length table ≤ t → false ≡ awake (awakeOf table) t
 asleep-past table t l = sym (List·getD-eq-default (awakeOf table) false {n = t} (rw awake-of-length l))
+
+-- a byte says whether its slot is awake
+module _ (table : List ℕ) (t : ℕ) (l : t < length table) where
+  pub byte-awake : getD table t 0 ≢ 255 → true ≡ awake (awakeOf table) t
+  byte-awake n = sym (awake-of table t l ∙ ap not (ne-eqb (getD table t 0) 255 n))
+
+  pub byte-asleep : getD table t 0 ≡ 255 → false ≡ awake (awakeOf table) t
+  byte-asleep e = sym (awake-of table t l ∙ ap not (eq-eqb (getD table t 0) 255 e))
 
 pub set-long : (table : List ℕ) (x : ℕ) → x < length table → x < length (awakeOf table)
 set-long table x l = rw awake-of-length l
@@ -121,3 +132,28 @@ test-awake a n b e o = rw (sym e ∙ o)
 
 pub test-near : (a n b c : Bool) → b ≡ a → b ≡ false → c ≡ n → c ≡ not a && n
 test-near a n b c e o f = rw (sym e ∙ o) f
+
+-- The first slot that can touch the set
+
+pub record Sleeping (table : List ℕ) (t : ℕ) : Type 0 where
+  pub each : (i : ℕ) → i < t → awake (awakeOf table) i ≡ false
+
+pub sleeping-start : (table : List ℕ) → Sleeping table 0
+sleeping-start table = record { each = λ i l. absurd (omega arith) }
+
+pub sleeping-turn : (table : List ℕ) (t : ℕ) → t < length table → getD table t 0 ≡ 255 → Sleeping table t → Sleeping table (t + 1)
+sleeping-turn table t l e s = record { each = λ i m. go i m (ℕ-discrete i t) }
+  where
+    go : (i : ℕ) → i < t + 1 → Dec (i ≡ t) → awake (awakeOf table) i ≡ false
+    go i m (yes q) = rw q (sym (byte-asleep table t l e))
+    go i m (no q) = s .each i (omega arith)
+
+pub alone-none : (S : List Bool) → Alone S 0
+alone-none S = record { each = λ i l. absurd (omega arith) }
+
+pub alone-before : (table : List ℕ) (t : ℕ) → Sleeping table t → Alone (awakeOf table) (t - 1)
+alone-before table t s = record { each = apart }
+  where
+    apart : (i : ℕ) → i < t - 1 → touches (awakeOf table) i ≡ false
+    apart zero l = s .each 1 (omega arith)
+    apart (suc i) l = rw (s .each i (omega arith)) (s .each (suc (suc i)) (omega arith))

@@ -24,8 +24,8 @@ use Rattle.edf.specs.Chain.Ranks.Theorems.{KeptByRank, rank-tests, rank-updates
 use Rattle.skeleton.specs.Waking.Cursor.{cursorAfter}
 use Rattle.chain.specs.Notes.{Noteable}
 use Rattle.chain.specs.Books.{Booked, Tryable, attempt, Attempted}
-use Rattle.grow.specs.Turns.{Extending, Growing, EndBefore, Extended}
-use Rattle.grow.proofs.Waking.{way-inside, way-pass, way-turn, way-end}
+use Rattle.grow.specs.Turns.{Alone, Extending, Growing, EndBefore, Extended}
+use Rattle.grow.proofs.Waking.{way-from, way-inside, way-pass, way-turn, way-end}
 
 module _ {J : Jobs} {from due order lost reach ends table : List ℕ} {short added cursor : ℕ}
     (g : Growing J (awakeOf table) from due order lost reach ends table short added cursor) where
@@ -37,6 +37,10 @@ module _ {J : Jobs} {from due order lost reach ends table : List ℕ} {short add
 
   pub growing-small : 0 < short → cursor < 4096
   growing-small l = omega (arith, growing-inside l, table-long, g .way .passes .high)
+
+  pub growing-from : {t : ℕ} → Alone (awakeOf table) t → Growing J (awakeOf table) from due order lost reach ends table short added t
+  growing-from a =
+      record { way = way-from (g .way) a; ranks = g .ranks; kept = g .kept; from-long = g .from-long; due-long = g .due-long; due-is = g .due-is }
 
   -- a rank reaches no further than its deadline
   in-time : (k : ℕ) → k < count J → getD reach k 0 ≤ deadline J (jobAt order k)

@@ -11,9 +11,9 @@ use native.Mathlib.Decide.{decLt}
 use borrow.Author.Tests.{lt-ltb}
 use lib.ListN.{length, length-set}
 use Rattle.sched.specs.Bounded.{leastFrom}
-use Rattle.sched.specs.Bounded.Laws.{lt-suc, true-not-false}
+use Rattle.sched.specs.Bounded.Laws.{lt-suc, by-bool, true-not-false}
 use Rattle.sched.specs.Jobs.{Jobs, totalVolume}
-use Rattle.sched.specs.Slots.{awakeOf, wakeSlot}
+use Rattle.sched.specs.Slots.{awake, awakeOf, wakeSlot}
 use Rattle.sched.specs.Workable.{workable}
 use Rattle.sched.specs.Steps.{wakes, nextWake, wokenIn, wakeAll, extended}
 use Rattle.edf.specs.Theorems.{unhelpful-stays, some-slot-wakes}
@@ -21,7 +21,7 @@ use Rattle.skeleton.specs.Waking.{Turn}
 use Rattle.skeleton.specs.Waking.Laws.{wakes-turn, wake-skeleton}
 use Rattle.skeleton.specs.Waking.Cursor.{NoneBefore, StaysIdle, cursorAfter, nextFrom}
 use Rattle.skeleton.specs.Waking.Cursor.Laws.{next-from, none-before-after}
-use Rattle.grow.specs.Turns.{Extending, Extended}
+use Rattle.grow.specs.Turns.{Alone, Extending, Extended}
 
 -- A search that starts at its goal finds it
 
@@ -53,6 +53,26 @@ module _ {J : Jobs} {S : List Bool} {short added cursor : ℕ} (e : Extending J 
       go : (x : ℕ) → x < J .horizon → wakes J S x ≡ true → Dec (x < cursor) → cursor < J .horizon
       go x m w (yes b) = true-not-false (wakes J S x) w (e .none-before x b)
       go x m w (no b) = omega arith
+
+  -- slots that touch nothing cannot be woken
+  pub way-from : {t : ℕ} → Alone S t → Extending J S short added t
+  unfolding wakes
+  way-from {t} a =
+      record {
+        passes = e .passes;
+        free = e .free;
+        long = e .long;
+        skeleton = e .skeleton;
+        short-is = e .short-is;
+        none-before = alone;
+        turns = e .turns;
+        still = e .still;
+        whole = e .whole;
+        in-all = e .in-all;
+      }
+    where
+      alone : (i : ℕ) → i < t → wakes J S i ≡ false
+      alone i l = by-bool (awake S i) (λ b. rw b) (λ b. rw (b, a .each i l))
 
   pub way-pass : wakes J S cursor ≡ false → Extending J S short added (cursor + 1)
   way-pass v =

@@ -6,7 +6,7 @@ use mathlib.Core.List.{List}
 use lib.ListN.{length, getD}
 use Rattle.sched.specs.Jobs.{Jobs, count, deadline, totalVolume}
 use Rattle.sched.specs.Checks.{Passes}
-use Rattle.sched.specs.Slots.{awakeOf}
+use Rattle.sched.specs.Slots.{awakeOf, touches}
 use Rattle.sched.specs.Overload.{overloaded}
 use Rattle.sched.specs.Skeleton.{isSkeleton, leastSkeleton}
 use Rattle.sched.specs.Workable.{workable}
@@ -36,6 +36,10 @@ pub record Growing (J : Jobs) (S : List Bool) (from due order lost reach ends ta
   pub from-long : length from ≡ count J
   pub due-long : length due ≡ count J
   pub due-is : (k : ℕ) → k < count J → getD due k 0 ≡ deadline J (jobAt order k)
+
+-- no slot before t touches the set
+pub record Alone (S : List Bool) (t : ℕ) : Type 0 where
+  pub each : (i : ℕ) → i < t → touches S i ≡ false
 
 -- `first` is a rank or the number of ranks, and the rank before it ends by slot x
 pub record EndBefore (due : List ℕ) (x first : ℕ) : Type 0 where

@@ -7,7 +7,7 @@ ghost use lib.ListN.{length, set};
 ghost use Rattle.sched.specs.Jobs.{jobsOf};
 ghost use Rattle.sched.specs.Slots.{awake, awakeOf, touches};
 ghost use Rattle.skeleton.specs.Waking.Cursor.{cursorAfter};
-ghost use Rattle.grow.specs.Turns.{EndBefore, Growing, Extended};
+ghost use Rattle.grow.specs.Turns.{Alone, EndBefore, Growing, Extended};
 
 const ASLEEP: u8 = 255;
 
@@ -27,7 +27,7 @@ fn is_near(table: &[u8], t: usize) -> bool
     if t == 0 {
         return is_awake(table, 1);
     }
-    if is_awake(table, t - 1) {
+    if table[t - 1] != ASLEEP {
         return true;
     }
     is_awake(table, t + 1)
@@ -38,10 +38,27 @@ fn is_next(table: &[u8], t: usize) -> bool
     requires { ⌜ t < length (now table) ⌝ }
     ensures { λ r. ⌜ r ≡ not (awake (awakeOf (now (table .entry))) t) && touches (awakeOf (now (table .entry))) t ⌝ }
 {
-    if is_awake(table, t) {
+    if table[t] != ASLEEP {
         return false;
     }
     is_near(table, t)
+}
+
+// No slot before the answer touches the set.
+fn first_near(table: &[u8]) -> usize
+    ensures { λ r. ⌜ Alone (awakeOf (now (table .entry))) r ⌝ }
+{
+    let mut t = 0;
+    while t < table.len() {
+        if table[t] != ASLEEP {
+            if t == 0 {
+                return 0;
+            }
+            return t - 1;
+        }
+        t += 1;
+    }
+    0
 }
 
 // Where the search goes on after slot x is woken: at the slot before, if only now it touches the set.
@@ -52,13 +69,13 @@ fn go_on_from(table: &[u8], x: usize) -> usize
     if x == 0 {
         return 1;
     }
-    if is_awake(table, x - 1) {
+    if table[x - 1] != ASLEEP {
         return x + 1;
     }
     if x == 1 {
         return 0;
     }
-    if is_awake(table, x - 2) {
+    if table[x - 2] != ASLEEP {
         return x + 1;
     }
     x - 1
@@ -107,7 +124,7 @@ pub fn grow(
     let mut ranks = [0u8; 64];
     let mut slots = [0u16; 64];
     let mut short = shortfall;
-    let mut cursor = 0;
+    let mut cursor = first_near(table);
     let mut first = 0;
     let mut added: u32 = 0;
     while 0 < short {

@@ -1,6 +1,6 @@
 -- `grow::grow` meets its contract. While volume is short, some slot can be woken, and none before the cursor: so the search ends inside
 -- the table, at the slot that step 3 wakes next.
-use Rattle.grow.proofs.Growing.{Grown, growing-inside, growing-small, growing-tryable, growing-pass, growing-vain, growing-long, growing-turn, growing-end, grown-notes}
+use Rattle.grow.proofs.Growing.{Grown, growing-from, growing-inside, growing-small, growing-tryable, growing-pass, growing-vain, growing-long, growing-turn, growing-end, grown-notes}
 use Rattle.sched.specs.Jobs.{jobsOf}
 use mathlib.Core.Path.{refl, _∙_}
 use lib.ListN.{length}
@@ -26,10 +26,13 @@ abbrev μ-loop : tie.MeasureT-loop
 μ-loop h q releases deadlines volumes from due order lost₀ reach₀ ends₀ table₀ shortfall ranks₀ slots₀ short₀ cursor₀ first₀ added₀ lost reach ends table ranks slots short cursor first added =
     short
 
+first-near-requires : tie.Need-first-near-requires Inv-search μ-search Inv-loop μ-loop
+first-near-requires c κs = search needs
+
 loop-holds : tie.Need-loop-holds Inv-search μ-search Inv-loop μ-loop
 loop-holds c =
     record {
-      now = c .before .before .before .before .before .before .before .before .before .before .pre;
+      now = growing-from (c .before .before .before .before .before .before .before .before .before .before .before .before .pre) (c .first-near .ensures);
       first-in = search needs;
       same-lost = refl;
       same-reach = refl;
@@ -119,7 +122,7 @@ go-on-from-requires c κs =
 add-added : tie.Need-add-added Inv-search μ-search Inv-loop μ-loop
 add-added c =
     let s = c .before .before .before .before .before .before .before .before .before .before .before .before .before .before .before .before .before .before .before .before .before .before .before .before in
-    let start = s .before .before .before .before .before .before .before .before .before .before .before .before .before in
+    let start = s .before .before .before .before .before .before .before .before .before .before .before .before .before .before .before in
     omega (arith, s .search .inv .now .way .in-all, start .pre .way .in-all, s .before .loop-test .taken)
 
 sub-short : tie.Need-sub-short Inv-search μ-search Inv-loop μ-loop
@@ -170,6 +173,7 @@ grow-spec =
     μ-search
     Inv-loop
     μ-loop
+    first-near-requires
     loop-holds
     search-holds
     is-next-requires

@@ -1,5 +1,9 @@
 -- `grow::is_near` meets its contract; slot 0 has one neighbour.
-use Rattle.grow.proofs.Edges.{near-first, near-before, near-behind}
+use Rattle.grow.proofs.Edges.{byte-awake, byte-asleep, near-first, near-before, near-behind}
+use Prim.Native.Nat.{_-_}
+use mathlib.Core.Path.{refl}
+use native.Mathlib.Omega.{arith}
+use denote.Ref.{now}
 use borrow.Author.Needs.{needs}
 use Rattle.grow.proofs.is_near.Statement.{statement}
 use Rattle.grow.proofs.is_near.Tie as tie
@@ -10,25 +14,27 @@ is-awake-requires c κs = search needs
 returns : tie.Need-returns
 returns c = near-first _ _ _ (c .before .if1 .taken) (c .is-awake .ensures)
 
-sub-is-awake : tie.Need-sub-is-awake
-sub-is-awake c = search needs
+sub-if2 : tie.Need-sub-if2
+sub-if2 c = search needs
 
-is-awake-requires-2 : tie.Need-is-awake-requires-2
-is-awake-requires-2 c κs = search needs
+shared-slice-read-if2 : tie.Need-shared-slice-read-if2
+shared-slice-read-if2 c = search needs
 
 returns-2 : tie.Need-returns-2
-returns-2 c = near-before _ _ _ (c .before .before .if1 .left) (c .before .is-awake2 .ensures) (c .if2 .taken)
+returns-2 c =
+    let a = c .before .before .before .before .args in
+    near-before _ _ _ (c .before .before .if1 .left) (byte-awake (now (a .table)) (a .t - 1) (omega (arith, c .before .before .before .before .pre)) (c .if2 .taken)) refl
 
 add-is-awake : tie.Need-add-is-awake
 add-is-awake c = search needs
 
-is-awake-requires-3 : tie.Need-is-awake-requires-3
-is-awake-requires-3 c κs = search needs
+is-awake-requires-2 : tie.Need-is-awake-requires-2
+is-awake-requires-2 c κs = search needs
 
 returns-3 : tie.Need-returns-3
 returns-3 c =
-    near-behind _ _ _ _ (c .before .before .before .if1 .left) (c .before .before .is-awake2 .ensures) (c .before .if2 .left)
-    (c .is-awake3 .ensures)
+    let a = c .before .before .before .before .before .args in
+    near-behind _ _ _ _ (c .before .before .before .if1 .left) (byte-asleep (now (a .table)) (a .t - 1) (omega (arith, c .before .before .before .before .before .pre)) (c .before .if2 .left)) refl (c .is-awake2 .ensures)
 
 pub is-near-spec : {M : Type 1} → statement M
 is-near-spec =
@@ -36,9 +42,9 @@ is-near-spec =
     (tie.spec
     is-awake-requires
     returns
-    sub-is-awake
-    is-awake-requires-2
+    sub-if2
+    shared-slice-read-if2
     returns-2
     add-is-awake
-    is-awake-requires-3
+    is-awake-requires-2
     returns-3)
