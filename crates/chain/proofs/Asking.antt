@@ -14,43 +14,17 @@ use lib.Seq.{getD-set-same, getD-set-other}
 use Rattle.edf.specs.Chain.{jobAt, endBelow}
 use Rattle.edf.specs.Chain.Ends.{ends-below}
 use Rattle.edf.specs.Chain.Ranks.{RankBooks, rankBooks, Tried, tried, reaches, gainedAt, handedOn}
+use Rattle.edf.specs.Chain.Ranks.Turns.{reaches-not-yet, reaches-no-more, reaches-if, tried-closed, tried-lost, tried-on}
 use Rattle.chain.specs.Books.{Stops, Gainable, Booked, Tryable, Attempted, attempt}
 use Rattle.chain.specs.Notes.{Noteable, slotHeld, Undoable, Undone}
 use Rattle.chain.proofs.Noting.{Noted, noted-start, noted-next, noted-undoable, noted-reach, noted-table}
 
-module _ (from order table lost reach ends : List ℕ) (k t : ℕ) where
-  tried-end : tried from order 0 k t table lost reach ends ≡ record { helped = false; books = rankBooks table lost reach ends }
-  unfolding tried
-  tried-end = refl
-
-  module _ (m : ℕ) where
-    tried-closed : reaches from reach t k ≡ false →
-        tried from order (suc m) k t table lost reach ends ≡ tried from order m (suc k) t table lost reach ends
-    unfolding tried
-    tried-closed e = rw (e, tried)
-
-    tried-lost : reaches from reach t k ≡ true → 0 < getD lost k 0 →
-        tried from order (suc m) k t table lost reach ends ≡ record { helped = true; books = gainedAt order k t table lost reach ends }
-    unfolding tried
-    tried-lost e l = rw (e, lt-ltb 0 (getD lost k 0) l, tried)
-
-    tried-on : reaches from reach t k ≡ true → getD lost k 0 ≤ 0 →
-        tried from order (suc m) k t table lost reach ends
-        ≡ tried from order m (suc k) (getD reach k 0 - 1) (set table t (jobAt order k)) lost (handedOn order k t table reach) ends
-    unfolding tried
-    tried-on e l = rw (e, le-ltb 0 (getD lost k 0) l, tried)
+tried-end : (from order table lost reach ends : List ℕ) (k t : ℕ) → tried from order 0 k t table lost reach ends ≡ record { helped = false; books = rankBooks table lost reach ends }
+unfolding tried
+tried-end from order table lost reach ends k t = refl
 
 turns-left : (n k : ℕ) → k < n → n - k ≡ suc (n - suc k)
 turns-left n k l = omega arith
-
-released : (a b t : ℕ) → t < a → leb a t && ltb t b ≡ false
-released a b t l = rw (lt-leb a t l)
-
-unreached : (a b t : ℕ) → a ≤ t → b ≤ t → leb a t && ltb t b ≡ false
-unreached a b t l m = rw (le-leb a t l, le-ltb t b m)
-
-reached : (a b t : ℕ) → a ≤ t → t < b → leb a t && ltb t b ≡ true
-reached a b t l m = rw (le-leb a t l, lt-ltb t b m)
 
 -- the slot of the next note holds no job that is still to be asked
 held-apart : {x first : ℕ} {from order lost reach ends table : List ℕ} → Tryable x first from order lost reach ends table →
@@ -165,24 +139,24 @@ module _ {x first : ℕ} {from order lost₀ reach₀ ends₀ table₀ ranks₀ 
             lower = λ i m. omega (arith, a .lower i m);
             last = λ i m. a .last i (omega arith);
             notes = a .notes;
-            rest = rw add-one (rw (turns-left (length from) k l) at (a .rest) ∙ tried-closed from order table lost reach ends k at (length from - suc k) e);
+            rest = rw add-one (rw (turns-left (length from) k l) at (a .rest) ∙ tried-closed from order table lost reach ends (length from - suc k) k at e);
           }
 
       pub asking-early : at < getD from k 0 → Asking x first from order lost₀ reach₀ ends₀ table₀ ranks₀ slots₀ lost reach ends table ranks slots noted at (k + 1)
-      asking-early e = skipped (released (getD from k 0) (getD reach k 0) at e)
+      asking-early e = skipped (reaches-not-yet from reach at k e)
 
       module _ (begun : getD from k 0 ≤ at) where
         pub asking-behind : getD reach k 0 ≤ at → Asking x first from order lost₀ reach₀ ends₀ table₀ ranks₀ slots₀ lost reach ends table ranks slots noted at (k + 1)
-        asking-behind e = skipped (unreached (getD from k 0) (getD reach k 0) at begun e)
+        asking-behind e = skipped (reaches-no-more from reach at k e)
 
         module _ (far : at < getD reach k 0) where
           open-here : reaches from reach at k ≡ true
-          open-here = reached (getD from k 0) (getD reach k 0) at begun far
+          open-here = reaches-if from reach at k begun far
 
           pub asking-gained : 0 < getD lost k 0 → (lost′ reach′ ends′ table′ : List ℕ) → Booked (gainedAt order k at table lost reach ends) table′ lost′ reach′ ends′ →
               Attempted x first from order lost₀ reach₀ ends₀ table₀ true lost′ reach′ ends′ table′
           asking-gained unit lost′ reach′ ends′ table′ b =
-              let e = (rw (turns-left (length from) k l) at (a .rest)) ∙ tried-lost from order table lost reach ends k at (length from - suc k) open-here unit in
+              let e = (rw (turns-left (length from) k l) at (a .rest)) ∙ tried-lost from order table lost reach ends (length from - suc k) k at open-here unit in
               record {
                 helped-is = sym (ap (λ (o : Tried). o .helped) e);
                 booked = λ q. booked-by (ap (λ (o : Tried). o .books) e);
@@ -251,5 +225,5 @@ module _ {x first : ℕ} {from order lost₀ reach₀ ends₀ table₀ ranks₀ 
                     lower = λ i m. lower-next i m (ℕ-discrete i noted);
                     last = last-next;
                     notes = noted-next (a .notes) k v asking-room (a .inside) (omega arith) (kept-on k (omega arith) l (omega arith) (omega arith));
-                    rest = rw (is, add-one) (rw (turns-left (length from) k l) at (a .rest) ∙ tried-on from order table lost reach ends k at (length from - suc k) open-here none);
+                    rest = rw (is, add-one) (rw (turns-left (length from) k l) at (a .rest) ∙ tried-on from order table lost reach ends (length from - suc k) k at open-here (omega arith));
                   }

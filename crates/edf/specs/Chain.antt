@@ -21,7 +21,6 @@ pub mod Keeping
 pub mod Tests
 pub mod Storing
 pub mod Updates
-pub mod Bounds
 pub mod Missing
 pub mod Ranks
 

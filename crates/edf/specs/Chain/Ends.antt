@@ -1,4 +1,4 @@
--- The last slot that holds a byte: searching for it downwards, keeping it while slots are filled in rising order, and after a store.
+-- The last slot that holds a byte: searching for it downwards, and keeping it after a store.
 use Prim.Native.Nat.{ℕ, zero, suc, _-_, _≤_, _<_, max}
 use mathlib.Core.Path.{_≡_, refl, sym, _∙_}
 use mathlib.Core.List.{List}
@@ -6,10 +6,10 @@ use mathlib.Core.Logic.{_⊎_, inl, inr, _≢_}
 use native.Mathlib.Omega.{arith}
 use native.Mathlib.Decide.{ℕ-discrete, decLt}
 use borrow.Author.Tests.{eq-eqb, ne-eqb}
-use lib.ListN.{length, getD, set, length-set}
+use lib.ListN.{length, getD, set}
 use lib.Seq.{getD-set-same, getD-set-other, set-getD}
 use Rattle.sched.specs.Bounded.Laws.{lt-suc}
-use Rattle.edf.specs.Chain.{endBelow, endOf}
+use Rattle.edf.specs.Chain.{endBelow}
 
 -- One turn of the search downwards
 
@@ -34,10 +34,6 @@ module _ (j : ℕ) (table : List ℕ) (all : ℕ) where
   scan-found (suc s) l f e =
       let q : suc s - 1 ≡ s = omega arith in
       e ∙ end-here j s table (rw q at f)
-
-  pub scan-end : (s : ℕ) → s ≡ 0 → all ≡ endBelow j s table → all ≡ 0
-  unfolding endBelow
-  scan-end s q e = rw q at e
 
 -- a search that has j below it does not run out
 pub scan-above : (j : ℕ) (table : List ℕ) (s t : ℕ) → t < s → getD table t 0 ≡ j → getD table (s - 1) 0 ≢ j → t < s - 1
@@ -91,9 +87,6 @@ ends-unique j s table (suc e) (suc f) a b = go (decLt e f) (decLt f e)
 pub end-is : (j s : ℕ) (table : List ℕ) (e : ℕ) → Ends j s table e → e ≡ endBelow j s table
 end-is j s table e c = ends-unique j s table e (endBelow j s table) c (ends-below j s table)
 
-pub end-at-most : (j s : ℕ) (table : List ℕ) (e : ℕ) → e ≡ endBelow j s table → e ≤ s
-end-at-most j s table e q = omega (arith, ends-below j s table .within)
-
 -- Only the slots below s count, and of those only whether they hold j.
 pub ends-alike : (j s : ℕ) (a b : List ℕ) (e : ℕ) →
     ((t : ℕ) → t < s → getD a t 0 ≡ j → getD b t 0 ≡ j) → ((t : ℕ) → t < s → getD b t 0 ≡ j → getD a t 0 ≡ j) → Ends j s a e → Ends j s b e
@@ -103,20 +96,6 @@ ends-alike j s a b e to back c =
       holds = λ t q. to t (omega (arith, c .within)) (c .holds t q);
       last = λ t l m h. c .last t l m (back t m h);
     }
-
--- Slots filled in rising order: slot s is stored, and with it the end of its byte.
-
-module _ (table : List ℕ) (s v : ℕ) (inside : s < length table) where
-  pub end-stored : endBelow v (suc s) (set table s v) ≡ suc s
-  end-stored = end-here v s (set table s v) (getD-set-same table s v 0 inside)
-
-  pub end-kept : (j : ℕ) → j ≢ v → endBelow j (suc s) (set table s v) ≡ endBelow j s table
-  end-kept j f =
-      end-lower j s (set table s v) (λ e. f (sym e ∙ getD-set-same table s v 0 inside))
-      ∙ sym
-      (end-is j s (set table s v) (endBelow j s table)
-      (ends-alike j s table (set table s v) (endBelow j s table) (λ t l e. getD-set-other table s t v 0 (omega arith) ∙ e)
-      (λ t l e. sym (getD-set-other table s t v 0 (omega arith)) ∙ e) (ends-below j s table)))
 
 -- Slot t, which holds no job, takes job j; and slot w, which job j gives up for it, is left blank.
 
@@ -168,13 +147,6 @@ module _ (h : ℕ) (table : List ℕ) (long : length table ≡ h) (blank j w : �
       go u l m (yes a) _ = λ q. ends-below j w table .last u l a (sym (getD-set-other table w u blank 0 (omega arith)) ∙ q)
       go u l m (no a) (yes b) = λ q. c .last u b m (sym (getD-set-other table w u blank 0 (omega arith)) ∙ q)
       go u l m (no a) (no b) = let e : u ≡ w = omega arith in rw e (λ q. f (sym (getD-set-same table w blank 0 (omega arith)) ∙ q))
-
-  -- the search below w finds the end that j has once slot w is another's
-  pub scan-finds-end : blank ≢ j → Ends j h table (suc w) → endBelow j w table ≡ endOf j (set table w blank)
-  unfolding endOf
-  scan-finds-end f c =
-      let q : length (set table w blank) ≡ h = length-set table w blank ∙ long in
-      rw q (end-is j h (set table w blank) (endBelow j w table) (ends-blank f c))
 
   pub ends-unblanked : (i : ℕ) → i ≢ j → i ≢ blank → getD table w 0 ≡ j → (e : ℕ) → Ends i h table e → Ends i h (set table w blank) e
   ends-unblanked i f g v e c =

@@ -35,9 +35,6 @@ module _ {J : Jobs} {S : List Bool} {table lost ends : List ℕ} (passes : Passe
       go zero q = omega arith
       go (suc t) q = served-first (spans J) (awake S) (volume J) t j (kept-last kept (omega (arith, passes .few)) j l .serves t q) .1 .able .before
 
-  pub kept-in-table : (j : ℕ) → j < count J → getD ends j 0 ≤ length table
-  kept-in-table j l = rw (kept-long kept) (kept-ends kept j l .within)
-
   module _ {order : List ℕ} (ranks : RankedJobs J order) {from lost′ reach ends′ : List ℕ} where
     pub by-rank-start : count J ≤ length lost′ → count J ≤ length reach → count J ≤ length ends′ →
         ((k : ℕ) → k < count J → getD from k 0 ≡ getD (J .releases) (jobAt order k) 0) →
