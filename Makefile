@@ -14,6 +14,7 @@ tool: target/jobs
 	@:
 
 target/jobs: $(wildcard tools/jobs/*) include/sleep_plan.h $(archive)
+	@tests/need $(CC)
 	@$(CC) $(STRICT) -Iinclude tools/jobs/*.c $(archive) -o $@
 
 # Whatever a proof or a function of the archive could rest on. `rt` itself knows what is still proved.
