@@ -11,7 +11,7 @@ use Rattle.sched.specs.Slots.{awakeOf}
 use Rattle.edf.specs.Chain.{jobAt}
 use Rattle.edf.specs.Chain.Ranks.Start.{reachOf, by-rank-start}
 use Rattle.grow.specs.Turns.{Growing}
-use Rattle.planner.specs.Order.{ByPlace}
+use Rattle.ranking.specs.Order.{ByPlace}
 use Rattle.planner.specs.Extending.{Begun, ReachOf}
 
 -- the reaches of the first k ranks are written

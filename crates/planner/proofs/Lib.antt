@@ -1,13 +1,4 @@
-pub mod Fronts
-pub mod Inserting
-pub mod Sorting
 pub mod Beginning
 pub mod Gathering
 pub mod Edges
-pub mod Searching
-pub mod Placing
-pub mod Sleeping
-pub mod Pricing
-pub mod Drawing
-pub mod Marking
 pub mod Stepping

@@ -6,7 +6,7 @@ use mathlib.Core.List.{List, _++_}
 use mathlib.Core.Option.{Option, none}
 use native.Mathlib.Omega.{arith}
 use lib.ListN.{length, take, drop}
-use Rattle.sched.specs.Jobs.{Jobs, count, deadline, totalVolume}
+use Rattle.sched.specs.Jobs.{Jobs, count}
 use Rattle.sched.specs.Checks.{Passes}
 use Rattle.sched.specs.Slots.{awakeOf}
 use Rattle.sched.specs.Energy.{tableFigures}
@@ -18,47 +18,67 @@ use Rattle.sched.specs.Outcomes.{figuresOf}
 use Rattle.sched.specs.declared.Figures.{Figures}
 use Rattle.sched.specs.declared.PlanFigures.{PlanFigures}
 use Rattle.edf.specs.Overload.Laws.{shown-none}
-use Rattle.edf.specs.Chain.{RankedJobs}
 use Rattle.sched.specs.Slots.Laws.{awake-of-length}
 use Rattle.demands.specs.Steps.{extended-length, extended-full, plan-feasible}
-use Rattle.planner.specs.Order.{risingBy, keyOf, Ordered}
-use Rattle.planner.specs.Order.Ranks.{by-deadline}
+use Rattle.ranking.specs.Fronts.{blank, front-length, filled-front}
+use Rattle.ranking.specs.Order.{Places, Orders}
+use Rattle.ranking.specs.Order.Both.{ranks-long, ranked-jobs, by-windows}
+use Rattle.least.specs.Places.{Served}
 use Rattle.grow.specs.Turns.{Extended}
 use Rattle.planner.specs.Extending.{Extendable}
 use Rattle.serving.specs.Runs.{Fillable}
 use Rattle.planner.specs.Promises.{Free, Stepped}
 
--- the array has room for every job
-pub few : (J : Jobs) (lent : List ℕ) → Free J lent → length (J .deadlines) ≤ 64
-few J lent f = omega (arith, f .passes .same-deadlines, f .passes .few)
+-- both orders can be written to the fronts of two arrays
+pub places : (J : Jobs) → Passes J → Places (J .releases) (J .deadlines) (take (count J) blank) (take (count J) blank)
+places J p =
+    let long = sym (front-length (count J) blank (p .few)) in
+    record { few = p .few; same = p .same-deadlines; ranks = long; arrivals = long }
 
-pub extendable : (J : Jobs) (order lent table : List ℕ) → Free J lent → order ≡ risingBy (keyOf (J .deadlines)) (length (J .deadlines)) → awakeOf table ≡ leastSkeleton J → Extendable J order table
-extendable J order lent table f e s =
-    record {
-      passes = f .passes;
-      free = shown-none J (f .none-shown);
-      ranks = subst (RankedJobs J) (sym (e ∙ ap (risingBy (deadline J)) (f .passes .same-deadlines))) (by-deadline J);
-      set-is = s;
-    }
+-- and they stand there after the call
+pub fronts-ordered :
+    (J : Jobs) → Passes J → (order soon : List ℕ) → length order ≡ length (take (count J) blank) → length soon ≡ length (take (count J) blank)
+    → Orders (J .releases) (J .deadlines) order soon
+    → Orders (J .releases) (J .deadlines) (take (count J) (order ++ drop (count J) blank)) (take (count J) (soon ++ drop (count J) blank))
+fronts-ordered J p order soon a b o =
+    let n = count J in
+    subst (λ (l : List ℕ). Orders (J .releases) (J .deadlines) (take n (order ++ drop n blank)) l) (sym (filled-front n blank soon (p .few) b))
+    (subst (λ (l : List ℕ). Orders (J .releases) (J .deadlines) l soon) (sym (filled-front n blank order (p .few) a)) o)
 
--- the ranks can be sorted by release
-pub ordered : (J : Jobs) (order table soon : List ℕ) → length order ≡ count J → Extendable J order table → length soon ≡ count J → Ordered (J .releases) order soon
-ordered J order table soon whole g places =
-    record { few = g .passes .few; whole = whole; known = λ k l. g .ranks .known k (omega arith); places = places }
+module _ (J : Jobs) (order soon table : List ℕ) (f : Free J order soon table) where
+  pub served : Served J order table
+  served =
+      let many = ranks-long J order soon (f .passes) (f .orders) in
+      record {
+        passes = f .passes;
+        serves = by-windows J order soon (f .passes) (f .orders);
+        many = many;
+        known = λ k l. ranked-jobs J order soon (f .passes) (f .orders) .known k (omega (arith, many));
+        long = f .long;
+      }
 
-pub fillable : (J : Jobs) (order table table′ : List ℕ) (added : ℕ) → Extendable J order table → Extended J table′ added → Fillable J order table′
-fillable J order table table′ added g x =
-    record {
-      passes = g .passes;
-      ranks = g .ranks;
-      long = sym (awake-of-length table′) ∙ ap length (x .set-is) ∙ extended-length J (g .passes) (g .free);
-      full = ap (workable J) (x .set-is) ∙ extended-full J (g .passes) (g .free);
-    }
+  pub extendable : (marked : List ℕ) → awakeOf marked ≡ leastSkeleton J → Extendable J order marked
+  extendable marked s =
+      record { passes = f .passes; free = shown-none J (f .none-shown); ranks = ranked-jobs J order soon (f .passes) (f .orders); set-is = s }
 
--- a table of H bytes is short enough to be counted
-pub countable : (J : Jobs) (order table table′ : List ℕ) (added : ℕ) → Extendable J order table → Extended J table′ added → length (tableOf J (awakeOf table′)) ≤ 4096
-countable J order table table′ added g x =
-    omega (arith, ap (λ (S : List Bool). length (tableOf J S)) (x .set-is), plan-feasible J (g .passes) (g .free) .long, g .passes .high)
+  pub fillable : (woke : List ℕ) (added : ℕ) → Extended J woke added → Fillable J order woke
+  fillable woke added x =
+      record {
+        passes = f .passes;
+        ranks = ranked-jobs J order soon (f .passes) (f .orders);
+        long = sym (awake-of-length woke) ∙ ap length (x .set-is) ∙ extended-length J (f .passes) (shown-none J (f .none-shown));
+        full = ap (workable J) (x .set-is) ∙ extended-full J (f .passes) (shown-none J (f .none-shown));
+      }
+
+  -- a table of H bytes is short enough to be counted
+  pub countable : (woke : List ℕ) (added : ℕ) → Extended J woke added → length (tableOf J (awakeOf woke)) ≤ 4096
+  countable woke added x =
+      omega (
+        arith,
+        ap (λ (S : List Bool). length (tableOf J S)) (x .set-is),
+        plan-feasible J (f .passes) (shown-none J (f .none-shown)) .long,
+        f .passes .high,
+      )
 
 pub stepped : (J : Jobs) (table′ table″ : List ℕ) (added : ℕ) (cost : Figures) → Extended J table′ added → table″ ≡ tableOf J (awakeOf table′) → cost ≡ tableFigures J table″ → Stepped J (record { energy = cost .energy; awake = cost .awake; runs = cost .runs; added = added }) table″
 unfolding figuresOf

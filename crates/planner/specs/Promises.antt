@@ -15,6 +15,7 @@ use Rattle.sched.specs.declared.PlanFigures.{PlanFigures}
 use Rattle.sched.specs.declared.Outcome.{Outcome}
 use Rattle.sched.specs.declared.Outcome.the-variants.{Planned}
 use Rattle.demands.specs.Rivals.{AgainstRivals}
+use Rattle.ranking.specs.Order.{Orders}
 pub mod Laws
 
 -- `lent` is the table as it was lent, `table` as it is handed back
@@ -32,7 +33,8 @@ pub record Stepped (J : Jobs) (figures : PlanFigures) (table : List ℕ) : Type 
   pub told : figures ≡ figuresOf J (tableOf J (extended J)) (length (woken J (leastSkeleton J)))
 
 -- steps 2 to 5 can be taken
-pub record Free (J : Jobs) (table : List ℕ) : Type 0 where
+pub record Free (J : Jobs) (order soon table : List ℕ) : Type 0 where
   pub passes : Passes J
+  pub orders : Orders (J .releases) (J .deadlines) order soon
   pub none-shown : shownOverload J ≡ none
   pub long : length table ≡ J .horizon

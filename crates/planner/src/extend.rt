@@ -9,7 +9,6 @@ ghost use Rattle.edf.specs.Chain.Ranks.Start.{reachOf};
 ghost use Rattle.serving.specs.Arrivals.{Arriving};
 ghost use Rattle.grow.specs.Turns.{Extended};
 ghost use Rattle.planner.specs.Extending.{EndsOf, ReachOf, Extendable, Beginning, Begun};
-use super::order;
 
 // The units that are lost of the first n jobs.
 fn lost_in_all(lost: &[u16], n: usize) -> u32
@@ -100,10 +99,10 @@ fn grow_all(
     ensures { λ r. ⌜ Extended (jobsOf h q (now (releases .entry)) (now (deadlines .entry)) (now (volumes .entry))) (now (table .exit)) r ⌝ }
 {
     let n = order.len();
-    let from = order::ranked(releases, order);
-    let due = order::ranked(deadlines, order);
-    let mut lost = order::ranked(left, order);
-    let mut ends = order::ranked(last, order);
+    let from = ranking::ranked(releases, order);
+    let due = ranking::ranked(deadlines, order);
+    let mut lost = ranking::ranked(left, order);
+    let mut ends = ranking::ranked(last, order);
     let mut reach = reaches(&due, &lost, &ends);
     grow::grow(
         h,

@@ -1,9 +1,10 @@
-// From a list to a table: document 01's steps on lent lists, a module a step.
+// From a list to a table: document 01's steps on lent lists.
 ghost use mathlib.Core.Path.{_≡_};
+ghost use Prim.Native.Nat.{_≤_};
 ghost use lib.ListN.{length};
 ghost use Rattle.sched.specs.Checks.{Passes};
 ghost use Rattle.sched.specs.Jobs.{jobsOf};
-ghost use Rattle.planner.specs.Extending.{Extendable};
+ghost use Rattle.ranking.specs.Order.{Orders};
 ghost use Rattle.planner.specs.Promises.{Promise, Free, Stepped};
 use overload::Shown;
 use sched::Checked;
@@ -11,29 +12,25 @@ use sched::Outcome;
 use sched::PlanFigures;
 use sched::Refusal;
 
-mod order; // order.rt: the jobs by a key
-mod overload; // overload.rt: step 1
-mod least; // least.rt: step 2, the least skeleton
 mod extend; // extend.rt: step 3
 
-// Steps 3 to 5, with the jobs by rank.
-fn work(
+// Steps 2 to 5 on a table of just H bytes, for a list that passes the checks and has no overloaded interval.
+fn steps(
     h: u16,
     q: u16,
     releases: &[u16],
     deadlines: &[u16],
     volumes: &[u16],
     order: &[u8],
+    soon: &[u8],
     table: &mut [u8],
 ) -> PlanFigures
-    requires { ⌜ (length (now order) ≡ length (now releases)) × Extendable (jobsOf h q (now releases) (now deadlines) (now volumes)) (now order) (now table) ⌝ }
+    requires { ⌜ Free (jobsOf h q (now releases) (now deadlines) (now volumes)) (now order) (now soon) (now table) ⌝ }
     ensures { λ r. ⌜ Stepped (jobsOf h q (now (releases .entry)) (now (deadlines .entry)) (now (volumes .entry))) r (now (table .exit)) ⌝ }
 {
-    let n = releases.len();
-    let mut soon = [0u8; 64];
-    order::by_release(releases, order, &mut soon[..n]);
-    let added = extend::extend(h, q, releases, deadlines, volumes, order, &soon[..n], table);
-    serving::fill(h, q, releases, deadlines, volumes, order, &soon[..n], table);
+    least::mark(h, q, releases, deadlines, volumes, order, table);
+    let added = extend::extend(h, q, releases, deadlines, volumes, order, soon, table);
+    serving::fill(h, q, releases, deadlines, volumes, order, soon, table);
     let cost = sched::cost_of(q, table);
     PlanFigures {
         energy: cost.energy,
@@ -43,23 +40,34 @@ fn work(
     }
 }
 
-// Steps 2 to 5 on a table of just H bytes, for a list that passes the checks and has no overloaded interval.
-fn steps(
+// Step 1 and what follows from it, with the jobs in their orders.
+fn plan_ranked(
     h: u16,
     q: u16,
     releases: &[u16],
     deadlines: &[u16],
     volumes: &[u16],
+    order: &[u8],
+    soon: &[u8],
     table: &mut [u8],
-) -> PlanFigures
-    requires { ⌜ Free (jobsOf h q (now releases) (now deadlines) (now volumes)) (now table) ⌝ }
-    ensures { λ r. ⌜ Stepped (jobsOf h q (now (releases .entry)) (now (deadlines .entry)) (now (volumes .entry))) r (now (table .exit)) ⌝ }
+) -> Outcome
+    requires { ⌜ Passes (jobsOf h q (now releases) (now deadlines) (now volumes)) × Orders (now releases) (now deadlines) (now order) (now soon) × (h ≤ length (now table)) ⌝ }
+    ensures { λ r. ⌜ Promise (jobsOf h q (now (releases .entry)) (now (deadlines .entry)) (now (volumes .entry))) (now (table .entry)) r (now (table .exit)) ⌝ }
 {
-    least::mark(h, q, releases, deadlines, volumes, table);
-    let n = deadlines.len();
-    let mut order = [0u8; 64];
-    order::sort(deadlines, &mut order[..n]);
-    work(h, q, releases, deadlines, volumes, &order[..n], table)
+    let end = h as usize;
+    match overload::find(h, q, releases, deadlines, volumes, order, soon) {
+        Shown::At(i) => Outcome::Overloaded(i),
+        Shown::Nothing => Outcome::Planned(steps(
+            h,
+            q,
+            releases,
+            deadlines,
+            volumes,
+            order,
+            soon,
+            &mut table[..end],
+        )),
+    }
 }
 
 // What is left to do for a list that has passed its checks.
@@ -78,17 +86,20 @@ fn plan_passed(
     if table.len() < end {
         return Outcome::Refused(Refusal::TooShort(end));
     }
-    match overload::find(h, q, releases, deadlines, volumes) {
-        Shown::At(i) => Outcome::Overloaded(i),
-        Shown::Nothing => Outcome::Planned(steps(
-            h,
-            q,
-            releases,
-            deadlines,
-            volumes,
-            &mut table[..end],
-        )),
-    }
+    let n = releases.len();
+    let mut order = [0u8; 64];
+    let mut soon = [0u8; 64];
+    ranking::rank(releases, deadlines, &mut order[..n], &mut soon[..n]);
+    plan_ranked(
+        h,
+        q,
+        releases,
+        deadlines,
+        volumes,
+        &order[..n],
+        &soon[..n],
+        table,
+    )
 }
 
 // The plan of a list, to the first h bytes of the table; a refusal or an overload leaves the table as it is.

@@ -2,7 +2,7 @@
 use mathlib.Core.Path.{refl}
 use denote.Ref.{now}
 use native.Mathlib.Omega.{arith}
-use Rattle.planner.proofs.Fronts.{front-length}
+use Rattle.ranking.specs.Fronts.{front-length}
 use Rattle.planner.proofs.Gathering.{room, place, known, gathered}
 use borrow.Author.Needs.{needs}
 use Rattle.planner.proofs.extend.grow_all.Statement.{statement}

@@ -1,0 +1,4 @@
+pub mod Sleeping
+pub mod Pricing
+pub mod Drawing
+pub mod Marking

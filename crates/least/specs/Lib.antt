@@ -1,0 +1,2 @@
+-- What the parts of step 2 compute.
+pub mod Places
