@@ -1,2 +1,3 @@
-pub mod Inserting
+pub mod Marking
+pub mod Counting
 pub mod Sorting

@@ -1,9 +1,9 @@
 -- The jobs of the ranks by release, from the back: their releases fall.
-use Prim.Native.Nat.{ℕ, zero, suc, _+_, _≤_, _<_}
+use Prim.Native.Nat.{ℕ, suc, _+_, _≤_, _<_}
 use mathlib.Core.Path.{_≡_, refl, sym, ap, _∙_}
 use mathlib.Core.List.{List, [], _∷_, map, reverse, reverseAux}
 use native.Mathlib.Omega.{arith}
-use lib.ListN.{length, getD}
+use lib.ListN.{length}
 use Rattle.sched.specs.Bounded.{sumBelow, total}
 use Rattle.sched.specs.Bounded.Laws.{sum-first}
 use Rattle.edf.specs.Overload.Order.{AtMost, Falling, InOrder}
