@@ -1,4 +1,4 @@
--- The fields of an entry where their bits stand, bounds of where they lie, and the ways out of the checks of an entry.
+-- The fields of an entry where their bits stand, and the ways out of the checks of an entry.
 use Prim.Native.Nat.{ℕ, _+_, _*_, _≤_, _<_}
 use mathlib.Core.Path.{_≡_, refl, sym, ap, _∙_}
 use mathlib.Core.Bool.{Bool, true, false, _&&_}
@@ -15,8 +15,9 @@ use Rattle.sched.specs.declared.Refusal.the-variants.{Truncated, UnknownBit, Re
 use Rattle.sched.specs.declared.Checked.{Checked}
 use Rattle.sched.specs.declared.Checked.the-variants.{Passed, Refused as Faulty}
 use Rattle.joblist.specs.Bytes.{word, width, absentRelease, absentDeadline, absentVolume, hasRelease, hasDeadline, hasVolume, releaseAt, deadlineAt, volumeAt, entryLength}
-use Rattle.joblist.specs.Reading.{mapOf, valueIf, releaseOf, deadlineOf, volumeOf, redundant, fieldsCheck, entryCheck}
-use Rattle.joblist.specs.Helpers.{entryOf}
+use Rattle.joblist.specs.Reading.{mapOf, valueIf, redundant, fieldsCheck, entryCheck}
+use Rattle.joblist.specs.Helpers.{FoundAt, entryOf}
+use Rattle.joblist.specs.declared.entry.Found.{Found}
 use Rattle.joblist.specs.declared.entry.Entry.{Entry}
 use Rattle.joblist.specs.declared.entry.Entry.the-variants.{Read, Refused}
 
@@ -24,69 +25,68 @@ pub width-small : (b : Bool) → width b ≤ 2
 width-small true = omega arith
 width-small false = omega arith
 
-pub deadline-at-small : (m : ℕ) → deadlineAt m ≤ 3
-deadline-at-small m = omega (arith, width-small (hasRelease m))
-
-pub volume-at-small : (m : ℕ) → volumeAt m ≤ 5
-volume-at-small m = omega (arith, deadline-at-small m, width-small (hasDeadline m))
-
 pub word-at : (bs : List ℕ) (at : ℕ) → getD bs at 0 + 256 * getD bs (at + 1) 0 ≡ word (drop at bs)
 word-at bs at = simp (getD-drop, add-zero)
 
-pub value-stands : (b : Bool) (absent w : ℕ) (bs : List ℕ) → b ≡ true → w ≡ word bs → w ≡ valueIf b absent bs
-value-stands b absent w bs p e = rw p e
+-- a field that stands, and one that does not
+pub stands-at : (b : Bool) (absent w at : ℕ) (bs : List ℕ) → b ≡ true → w ≡ word (drop at bs) → FoundAt b absent at bs (record { value = w; next = at + 2 })
+stands-at b absent w at bs p e = record { value = rw p e; next = rw p }
 
--- a field as it was read: its value, and whether it stands with its absent value
-pub record FieldRead (has : ℕ → Bool) (place : ℕ → ℕ) (absent : ℕ) (bs : List ℕ) (x : ℕ) (test : Bool) : Type 0 where
-  pub value : x ≡ valueIf (has (mapOf bs)) absent (drop (place (mapOf bs)) bs)
-  pub tested : redundant (has (mapOf bs)) absent (drop (place (mapOf bs)) bs) ≡ test
+pub absent-at : (b : Bool) (absent at : ℕ) (bs : List ℕ) → b ≡ false → FoundAt b absent at bs (record { value = absent; next = at })
+absent-at b absent at bs p = record { value = rw p; next = rw (p, add-zero) }
+
+-- a field as it was read: its value, the offset behind it, and whether it stands with its absent value
+pub record FieldRead (stands : Bool) (place absent : ℕ) (bs : List ℕ) (f : Found) (test : Bool) : Type 0 where
+  pub value : f .value ≡ valueIf stands absent (drop place bs)
+  pub next : f .next ≡ place + width stands
+  pub tested : redundant stands absent (drop place bs) ≡ test
 
 test-of-value : (stands : Bool) (absent x : ℕ) (bs : List ℕ) → x ≡ valueIf stands absent bs → redundant stands absent bs ≡ (stands && eqb x absent)
 test-of-value true absent x bs e = rw e
 test-of-value false absent x bs e = refl
 
-pub field-read : (has : ℕ → Bool) (place : ℕ → ℕ) (absent : ℕ) (bs : List ℕ) {map at : ℕ} {stands : Bool} {x : ℕ} {found test : Bool} → map ≡ mapOf bs → stands ≡ has map → at ≡ place map → x ≡ valueIf stands absent (drop at bs) → found ≡ (stands && eqb x absent) → found ≡ test → FieldRead has place absent bs x test
-field-read has place absent bs {map} {at} {stands} {x} m s p v f e =
-    record {
-      value = rw (← m, ← s, ← p) v;
-      tested = rw (← m, ← s, ← p) (test-of-value stands absent x (drop at bs) v ∙ sym f ∙ e);
-    }
+pub field-read : (stands : Bool) (place absent : ℕ) (bs : List ℕ) {has : Bool} {at : ℕ} {f : Found} {found test : Bool} → has ≡ stands → at ≡ place → FoundAt has absent at bs f → found ≡ (has && eqb (f .value) absent) → found ≡ test → FieldRead stands place absent bs f test
+field-read stands place absent bs {has} {at} {f} s p v w e =
+    rw (← s, ← p)
+    record { value = v .value; next = v .next; tested = test-of-value has absent (f .value) (drop at bs) (v .value) ∙ sym w ∙ e }
+
+abbrev pub First : List ℕ → Found → Bool → Type 0
+First bs = FieldRead (hasRelease (mapOf bs)) releaseAt absentRelease bs
+
+abbrev pub Second : ℕ → List ℕ → Found → Bool → Type 0
+Second h bs = FieldRead (hasDeadline (mapOf bs)) (deadlineAt (mapOf bs)) (absentDeadline h) bs
+
+abbrev pub Third : List ℕ → Found → Bool → Type 0
+Third bs = FieldRead (hasVolume (mapOf bs)) (volumeAt (mapOf bs)) absentVolume bs
 
 -- the ways out of the checks of a job's fields
 module _ (h j at : ℕ) (bs : List ℕ) where
-  abbrev First : ℕ → Bool → Type 0
-  First = FieldRead hasRelease (λ m. releaseAt) absentRelease bs
+  abbrev answer : Entry
+  answer = entryOf (fieldsCheck h j at bs) h bs
 
-  abbrev Second : ℕ → Bool → Type 0
-  Second = FieldRead hasDeadline deadlineAt (absentDeadline h) bs
-
-  abbrev Third : ℕ → Bool → Type 0
-  Third = FieldRead hasVolume volumeAt absentVolume bs
-
-  pub release-refused : {r : ℕ} → First r true → Refused (Redundant (at + releaseAt)) ≡ entryOf (fieldsCheck h j at bs) h bs
+  pub release-refused : {r : Found} → First bs r true → Refused (Redundant (at + releaseAt)) ≡ answer
   unfolding fieldsCheck
   release-refused a = rw (a .tested)
 
-  pub deadline-refused : {r d map : ℕ} (place : ℕ) → map ≡ mapOf bs → place ≡ deadlineAt map → First r false → Second d true → Refused (Redundant (at + place)) ≡ entryOf (fieldsCheck h j at bs) h bs
+  pub deadline-refused : {r d : Found} → First bs r false → Second h bs d true → Refused (Redundant (at + r .next)) ≡ answer
   unfolding fieldsCheck
-  deadline-refused place m p a b = rw (p, m, a .tested, b .tested)
+  deadline-refused a b = rw (a .next, a .tested, b .tested)
 
-  pub volume-refused : {r d p map : ℕ} (place : ℕ) → map ≡ mapOf bs → place ≡ volumeAt map → First r false → Second d false → Third p true → Refused (Redundant (at + place)) ≡ entryOf (fieldsCheck h j at bs) h bs
+  pub volume-refused : {r d p : Found} → First bs r false → Second h bs d false → Third bs p true → Refused (Redundant (at + d .next)) ≡ answer
   unfolding fieldsCheck
-  volume-refused place m p a b c = rw (p, m, a .tested, b .tested, c .tested)
+  volume-refused a b c = rw (b .next, a .tested, b .tested, c .tested)
 
-  module _ {r d p : ℕ} (a : First r false) (b : Second d false) (c : Third p false) (answer : Checked) (e : answer ≡ jobCheck h j r d p) where
-    job-decides : (got : Checked) → answer ≡ got → got ≡ fieldsCheck h j at bs
+  module _ {r d p : Found} (a : First bs r false) (b : Second h bs d false) (c : Third bs p false) (check : Checked) (e : check ≡ jobCheck h j (r .value) (d .value) (p .value)) where
+    job-decides : (got : Checked) → check ≡ got → got ≡ fieldsCheck h j at bs
     unfolding fieldsCheck
     job-decides got f = sym f ∙ rw (a .tested, b .tested, c .tested, ← a .value, ← b .value, ← c .value) e
 
-    pub job-refused : (x : Refusal) → answer ≡ Faulty x → Refused x ≡ entryOf (fieldsCheck h j at bs) h bs
+    pub job-refused : (x : Refusal) → check ≡ Faulty x → Refused x ≡ answer
     job-refused x f = ap (λ (y : Checked). entryOf y h bs) (job-decides (Faulty x) f)
 
-    pub job-read : {map size : ℕ} → map ≡ mapOf bs → size ≡ entryLength map → answer ≡ Passed → Read (record { release = r; deadline = d; volume = p; size = size }) ≡ entryOf (fieldsCheck h j at bs) h bs
-    job-read {map} {size} m s f =
-        let z : size ≡ entryLength (mapOf bs) = rw m at s in
-        ap Read (λ i. record { release = a .value i; deadline = b .value i; volume = c .value i; size = z i })
+    pub job-read : check ≡ Passed → Read (record { release = r .value; deadline = d .value; volume = p .value; size = p .next }) ≡ answer
+    job-read f =
+        ap Read (λ i. record { release = a .value i; deadline = b .value i; volume = c .value i; size = c .next i })
         ∙ ap (λ (y : Checked). entryOf y h bs) (job-decides Passed f)
 
 -- the ways out of the checks of an entry

@@ -114,53 +114,63 @@ refused h count bytes rs ds ps r e = record { told = e; releases = never; deadli
     never : {A : Type 0} → _≡_ {A = Checked} (Faulty r) Passed → A
     never q = let z : _≡_ {A = ℕ} 0 1 = cc in absurd (omega arith)
 
-module _ (h count : ℕ) (bytes rs₀ ds₀ ps₀ : List ℕ) (room : Fillable count bytes rs₀ ds₀ ps₀) where
-  pub walk-start : WalkedTo h count bytes rs₀ ds₀ ps₀ headerLength 0 rs₀ ds₀ ps₀
-  walk-start =
-      let z = sub-zero count in
-      record {
-        inside = room .long;
-        reached = omega arith;
-        checks = rw z;
-        releases = record { same = refl; stored = rw z };
-        deadlines = record { same = refl; stored = rw z };
-        volumes = record { same = refl; stored = rw z };
-      }
+pub walk-start : {h count : ℕ} {bytes rs ds ps : List ℕ} → Fillable count bytes rs ds ps → WalkedTo h count bytes rs ds ps headerLength 0 rs ds ps
+walk-start {h} {count} room =
+    let z = sub-zero count in
+    record {
+      inside = room .long;
+      reached = omega arith;
+      checks = rw z;
+      releases = record { same = refl; stored = rw z };
+      deadlines = record { same = refl; stored = rw z };
+      volumes = record { same = refl; stored = rw z };
+    }
 
-  module _ (at job : ℕ) (rs ds ps : List ℕ) (w : WalkedTo h count bytes rs₀ ds₀ ps₀ at job rs ds ps) where
-    module _ (rest : List ℕ) (e : Entry) (l : job < count) (s : rest ≡ drop at bytes) (a : e ≡ entryOf (entryCheck h (length bytes) job at rest) h rest) where
-      pub walk-inside : (f : Fields) → e ≡ Read f → at + f .size ≤ length bytes
-      walk-inside f b =
-          let t = told-read h rest (entryCheck h (length bytes) job at rest) e f a b in
-          within h (length bytes) bytes job at (f .size) rest (w .inside) s (ap (λ (x : Fields). x .size) (t .1)) (t .0)
+module _ {h count : ℕ} {bytes rs₀ ds₀ ps₀ : List ℕ} {at job : ℕ} {rs ds ps : List ℕ} (w : WalkedTo h count bytes rs₀ ds₀ ps₀ at job rs ds ps) where
+  abbrev all : Checked
+  all = behindHeader h count bytes
 
-      pub walk-next : (f : Fields) → e ≡ Read f → WalkedTo h count bytes rs₀ ds₀ ps₀ (at + f .size) (job + 1) (set rs job (f .release)) (set ds job (f .deadline)) (set ps job (f .volume))
-      walk-next f b =
-          let t = told-read h rest (entryCheck h (length bytes) job at rest) e f a b in
-          let z : f .size ≡ entryLength (mapOf rest) = ap (λ (x : Fields). x .size) (t .1) in
-          record {
-            inside = walk-inside f b;
-            reached = omega arith;
-            checks = entries-next h (length bytes) bytes (behindHeader h count bytes) count job at (f .size) rest l s z (t .0) (w .checks);
-            releases = column-next releaseOf bytes rs₀ rs count job at (f .size) (f .release) rest l s z (ap (λ (x : Fields). x .release) (t .1)) (w .releases);
-            deadlines = column-next (deadlineOf h) bytes ds₀ ds count job at (f .size) (f .deadline) rest l s z (ap (λ (x : Fields). x .deadline) (t .1)) (w .deadlines);
-            volumes = column-next volumeOf bytes ps₀ ps count job at (f .size) (f .volume) rest l s z (ap (λ (x : Fields). x .volume) (t .1)) (w .volumes);
-          }
+  -- what was told of the entry here
+  module _ {rest : List ℕ} {e : Entry} (l : job < count) (s : rest ≡ drop at bytes) (a : e ≡ entryOf (entryCheck h (length bytes) job at rest) h rest) where
+    abbrev here : Checked
+    here = entryCheck h (length bytes) job at rest
 
-      pub walk-stop : (r : Refusal) → e ≡ Refused r → Walked h count bytes (Faulty r) rs ds ps
-      walk-stop r b =
-          let t = told-refused h rest (entryCheck h (length bytes) job at rest) e r a b in
-          refused h count bytes rs ds ps r (entries-stop h (length bytes) bytes (behindHeader h count bytes) count job at rest r l s t (w .checks))
+    pub walk-inside : (f : Fields) → e ≡ Read f → at + f .size ≤ length bytes
+    walk-inside f b =
+        let t = told-read h rest here e f a b in
+        within h (length bytes) bytes job at (f .size) rest (w .inside) s (ap (λ (x : Fields). x .size) (t .1)) (t .0)
 
-    pub walk-left-over : count ≤ job → at < length bytes → Walked h count bytes (Faulty (LeftOver at)) rs ds ps
-    walk-left-over l m =
-        refused h count bytes rs ds ps (LeftOver at) (entries-left-over h (length bytes) bytes (behindHeader h count bytes) count job at l m (w .checks))
-
-    pub walk-end : count ≤ job → length bytes ≤ at → Walked h count bytes Passed rs ds ps
-    walk-end l m =
+    pub walk-next : (f : Fields) → e ≡ Read f → WalkedTo h count bytes rs₀ ds₀ ps₀ (at + f .size) (job + 1) (set rs job (f .release)) (set ds job (f .deadline)) (set ps job (f .volume))
+    walk-next f b =
+        let t = told-read h rest here e f a b in
+        let n = f .size in
+        let z : n ≡ entryLength (mapOf rest) = ap (λ (x : Fields). x .size) (t .1) in
+        let r = ap (λ (x : Fields). x .release) (t .1) in
+        let d = ap (λ (x : Fields). x .deadline) (t .1) in
+        let p = ap (λ (x : Fields). x .volume) (t .1) in
         record {
-          told = entries-end h (length bytes) bytes (behindHeader h count bytes) count job at l m (w .checks);
-          releases = λ _. column-end releaseOf bytes rs₀ rs count job at l (room .releases) (w .releases);
-          deadlines = λ _. column-end (deadlineOf h) bytes ds₀ ds count job at l (room .deadlines) (w .deadlines);
-          volumes = λ _. column-end volumeOf bytes ps₀ ps count job at l (room .volumes) (w .volumes);
+          inside = walk-inside f b;
+          reached = omega arith;
+          checks = entries-next h (length bytes) bytes all count job at n rest l s z (t .0) (w .checks);
+          releases = column-next releaseOf bytes rs₀ rs count job at n (f .release) rest l s z r (w .releases);
+          deadlines = column-next (deadlineOf h) bytes ds₀ ds count job at n (f .deadline) rest l s z d (w .deadlines);
+          volumes = column-next volumeOf bytes ps₀ ps count job at n (f .volume) rest l s z p (w .volumes);
         }
+
+    pub walk-stop : (r : Refusal) → e ≡ Refused r → Walked h count bytes (Faulty r) rs ds ps
+    walk-stop r b =
+        refused h count bytes rs ds ps r
+        (entries-stop h (length bytes) bytes all count job at rest r l s (told-refused h rest here e r a b) (w .checks))
+
+  pub walk-left-over : count ≤ job → at < length bytes → Walked h count bytes (Faulty (LeftOver at)) rs ds ps
+  walk-left-over l m =
+      refused h count bytes rs ds ps (LeftOver at) (entries-left-over h (length bytes) bytes all count job at l m (w .checks))
+
+  pub walk-end : Fillable count bytes rs₀ ds₀ ps₀ → count ≤ job → length bytes ≤ at → Walked h count bytes Passed rs ds ps
+  walk-end room l m =
+      record {
+        told = entries-end h (length bytes) bytes all count job at l m (w .checks);
+        releases = λ _. column-end releaseOf bytes rs₀ rs count job at l (room .releases) (w .releases);
+        deadlines = λ _. column-end (deadlineOf h) bytes ds₀ ds count job at l (room .deadlines) (w .deadlines);
+        volumes = λ _. column-end volumeOf bytes ps₀ ps count job at l (room .volumes) (w .volumes);
+      }

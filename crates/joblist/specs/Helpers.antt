@@ -1,15 +1,17 @@
 -- What the private functions of the reader and the writer ask and promise, part by part.
 use Prim.Native.Nat.{ℕ, _+_, _^_, _≤_, _<_}
 use mathlib.Core.Path.{_≡_}
+use mathlib.Core.Bool.{Bool}
 use mathlib.Core.List.{List, _++_}
 use lib.ListN.{length, take, drop}
 use lib.Seq.{sets}
 use Rattle.sched.specs.Checks.{andThen}
 use Rattle.sched.specs.declared.Checked.{Checked}
 use Rattle.sched.specs.declared.Checked.the-variants.{Passed, Refused as Faulty}
-use Rattle.joblist.specs.Bytes.{headerLength, headerHorizon, headerWake, headerCount, entryLength, entriesBytes}
-use Rattle.joblist.specs.Reading.{mapOf, releaseOf, deadlineOf, volumeOf, headerCheck, lentCheck, entriesCheck, column}
+use Rattle.joblist.specs.Bytes.{headerLength, headerHorizon, headerWake, headerCount, width, entryLength, entriesBytes}
+use Rattle.joblist.specs.Reading.{mapOf, valueIf, releaseOf, deadlineOf, volumeOf, headerCheck, lentCheck, entriesCheck, column}
 use Rattle.joblist.specs.declared.ListHeader.{ListHeader}
+use Rattle.joblist.specs.declared.entry.Found.{Found}
 use Rattle.joblist.specs.declared.entry.Fields.{Fields}
 use Rattle.joblist.specs.declared.entry.Entry.{Entry}
 use Rattle.joblist.specs.declared.entry.Entry.the-variants.{Read, Refused}
@@ -24,10 +26,14 @@ pub record HeaderOf (bytes : List ℕ) (list : ListHeader) : Type 0 where
 abbrev pub frontCheck : List ℕ → ℕ → ℕ → ℕ → Checked
 frontCheck bytes r d p = andThen (headerCheck bytes) (lentCheck (headerCount bytes) r d p)
 
+-- a field at an offset: its value, and the offset behind it
+pub record FoundAt (stands : Bool) (absent at : ℕ) (bs : List ℕ) (f : Found) : Type 0 where
+  pub value : f .value ≡ valueIf stands absent (drop at bs)
+  pub next : f .next ≡ at + width stands
+
 -- a map byte and all bytes of its fields, at an offset of the input
-pub record WholeEntry (at map : ℕ) (bs : List ℕ) : Type 0 where
-  pub starts : map ≡ mapOf bs
-  pub whole : entryLength map ≤ length bs
+pub record WholeEntry (at : ℕ) (bs : List ℕ) : Type 0 where
+  pub whole : entryLength (mapOf bs) ≤ length bs
   pub fits : at + length bs < 2 ^ 64
 
 -- what is read of an entry: its fields where its checks pass

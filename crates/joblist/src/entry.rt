@@ -4,11 +4,17 @@ ghost use mathlib.Core.Bool.{_&&_};
 ghost use Prim.Native.Nat.{_+_, _≤_};
 ghost use lib.Dec.{eqb};
 ghost use lib.ListN.{length, drop};
-ghost use Rattle.joblist.specs.Bytes.{word, hasRelease, hasDeadline, hasVolume, width, deadlineAt, volumeAt, entryLength};
-ghost use Rattle.joblist.specs.Reading.{valueIf, fieldsCheck, entryCheck};
-ghost use Rattle.joblist.specs.Helpers.{WholeEntry, entryOf};
+ghost use Rattle.joblist.specs.Bytes.{word, hasRelease, hasDeadline, hasVolume, width, entryLength};
+ghost use Rattle.joblist.specs.Reading.{fieldsCheck, entryCheck};
+ghost use Rattle.joblist.specs.Helpers.{FoundAt, WholeEntry, entryOf};
 use sched::Checked;
 use sched::Refusal;
+
+// A field's value, and the offset behind the field.
+struct Found {
+    value: u16,
+    next: usize,
+}
 
 // The fields of a job, and the length of its entry.
 pub struct Fields {
@@ -56,31 +62,29 @@ fn width(stands: bool) -> usize
     if stands { 2 } else { 0 }
 }
 
-fn deadline_at(map: u8) -> usize
-    ensures { λ r. ⌜ r ≡ deadlineAt map ⌝ }
-{
-    1 + width(has_release(map))
-}
-
-fn volume_at(map: u8) -> usize
-    ensures { λ r. ⌜ r ≡ volumeAt map ⌝ }
-{
-    deadline_at(map) + width(has_deadline(map))
-}
-
 // The length of the entry that a map byte starts.
 fn size(map: u8) -> usize
     ensures { λ r. ⌜ r ≡ entryLength map ⌝ }
 {
-    volume_at(map) + width(has_volume(map))
+    1 + width(has_release(map)) + width(has_deadline(map)) + width(has_volume(map))
 }
 
-// The value of a field at an offset, or the absent value.
-fn value(stands: bool, absent: u16, bytes: &[u8], at: usize) -> u16
+// The field at an offset: its value, or the absent value if it does not stand.
+fn field(stands: bool, absent: u16, bytes: &[u8], at: usize) -> Found
     requires { ⌜ at + width stands ≤ length (now bytes) ⌝ }
-    ensures { λ r. ⌜ r ≡ valueIf stands absent (drop at (now (bytes .entry))) ⌝ }
+    ensures { λ f. ⌜ FoundAt stands absent at (now (bytes .entry)) f ⌝ }
 {
-    if stands { word(bytes, at) } else { absent }
+    if stands {
+        Found {
+            value: word(bytes, at),
+            next: at + 2,
+        }
+    } else {
+        Found {
+            value: absent,
+            next: at,
+        }
+    }
 }
 
 // Whether a field stands with its absent value, given the value read.
@@ -91,33 +95,32 @@ fn is_redundant(stands: bool, absent: u16, x: u16) -> bool
 }
 
 // The fields of a job whose entry is whole, read and checked; its map byte stands at offset `at` of the input.
-fn read_fields(h: u16, job: usize, at: usize, map: u8, bytes: &[u8]) -> Entry
-    requires { ⌜ WholeEntry at map (now bytes) ⌝ }
+fn read_fields(h: u16, job: usize, at: usize, bytes: &[u8]) -> Entry
+    requires { ⌜ WholeEntry at (now bytes) ⌝ }
     ensures { λ e. ⌜ e ≡ entryOf (fieldsCheck h job at (now (bytes .entry))) h (now (bytes .entry)) ⌝ }
 {
+    let map = bytes[0];
     let has = has_release(map);
-    let release = value(has, 0, bytes, 1);
-    if is_redundant(has, 0, release) {
+    let first = field(has, 0, bytes, 1);
+    if is_redundant(has, 0, first.value) {
         return Entry::Refused(Refusal::Redundant(at + 1));
     }
     let has = has_deadline(map);
-    let second = deadline_at(map);
-    let deadline = value(has, h, bytes, second);
-    if is_redundant(has, h, deadline) {
-        return Entry::Refused(Refusal::Redundant(at + second));
+    let second = field(has, h, bytes, first.next);
+    if is_redundant(has, h, second.value) {
+        return Entry::Refused(Refusal::Redundant(at + first.next));
     }
     let has = has_volume(map);
-    let third = volume_at(map);
-    let volume = value(has, 1, bytes, third);
-    if is_redundant(has, 1, volume) {
-        return Entry::Refused(Refusal::Redundant(at + third));
+    let third = field(has, 1, bytes, second.next);
+    if is_redundant(has, 1, third.value) {
+        return Entry::Refused(Refusal::Redundant(at + second.next));
     }
-    match sched::check_job(h, job, release, deadline, volume) {
+    match sched::check_job(h, job, first.value, second.value, third.value) {
         Checked::Passed => Entry::Read(Fields {
-            release,
-            deadline,
-            volume,
-            size: size(map),
+            release: first.value,
+            deadline: second.value,
+            volume: third.value,
+            size: third.next,
         }),
         Checked::Refused(r) => Entry::Refused(r),
     }
@@ -138,5 +141,5 @@ pub fn read(h: u16, total: usize, job: usize, at: usize, bytes: &[u8]) -> Entry
     if bytes.len() < size(map) {
         return Entry::Refused(Refusal::Truncated(total));
     }
-    read_fields(h, job, at, map, bytes)
+    read_fields(h, job, at, bytes)
 }

@@ -1,6 +1,5 @@
 -- `entry::read` meets its contract: the tests are those of `entryCheck`, in its order, and `read_fields` answers for the fields.
 use borrow.Author.Needs.{needs}
-use mathlib.Core.Path.{refl}
 use native.Mathlib.Omega.{arith}
 use Rattle.joblist.proofs.Fields.{map-missing, bit-unknown, field-missing, fields-decide}
 use Rattle.joblist.proofs.entry.read.Statement.{statement}
@@ -27,7 +26,7 @@ returns-3 c =
     field-missing (a .h) (a .total) (a .job) (a .at) (a .bytes .now) (c .before .size .result) (c .before .size .ensures) (d .before .before .if1 .left) (d .if2 .left) (c .if3 .taken)
 
 read-fields-requires : tie.Need-read-fields-requires
-read-fields-requires c κs = record { starts = refl; whole = omega (arith, c .before .size .ensures, c .if3 .left); fits = search needs }
+read-fields-requires c κs = record { whole = omega (arith, c .before .size .ensures, c .if3 .left); fits = search needs }
 
 returns-4 : tie.Need-returns-4
 returns-4 c =

@@ -54,15 +54,10 @@ returns c =
     let k = c .before .before .before .before .before .before .before in
     let j = k .before .before .before .before .before in
     let m = j .before .before .before in
-    let w = m .before .before .before .before .before .walk in
-    let a = m .before .before .before .before .before .before .before .before .before .before .before .before .before .args in
-    fill-passed (a .h) (a .count) (a .bytes .now) (a .releases .now) (a .deadlines .now) (a .volumes .now) (w .result) (w .ensures) (m .enum-told .given .1) (j .copy .ensures) (k .copy2 .ensures) (c .before .before .copy3 .ensures)
+    fill-passed (m .before .before .before .before .before .walk .ensures) (m .enum-told .given .1) (j .copy .ensures) (k .copy2 .ensures) (c .before .before .copy3 .ensures)
 
 returns-2 : tie.Need-returns-2
-returns-2 c =
-    let w = c .before .before .before .before .before .before .walk in
-    let a = c .before .before .before .before .before .before .before .before .before .before .before .before .before .before .args in
-    fill-refused (a .h) (a .count) (a .bytes .now) (a .releases .now) (a .deadlines .now) (a .volumes .now) (w .result) (w .ensures) _ (c .before .r .given .1)
+returns-2 c = fill-refused (c .before .before .before .before .before .before .walk .ensures) _ (c .before .r .given .1)
 
 pub fill-spec : {M : Type 1} → statement M
 fill-spec =

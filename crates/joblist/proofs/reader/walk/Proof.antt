@@ -16,10 +16,7 @@ abbrev μ-loop : tie.MeasureT-loop
     count - job
 
 loop-holds : tie.Need-loop-holds Inv-loop μ-loop
-loop-holds c =
-    let s = c .before .before .before .before in
-    let a = s .args in
-    walk-start (a .h) (a .count) (a .bytes .now) (a .releases .now) (a .deadlines .now) (a .volumes .now) (s .pre)
+loop-holds c = walk-start (c .before .before .before .before .pre)
 
 sub-rest : tie.Need-sub-rest Inv-loop μ-loop
 sub-rest c = search needs
@@ -58,13 +55,9 @@ add-at : tie.Need-add-at Inv-loop μ-loop
 add-at c =
     let k = c .before .before .before .before .read in
     let t = c .before .before .before .before .before .before in
-    let s = t .before .before .before .before .before .before in
-    let a = s .args in
-    let b = a .bytes .now in
     let l = t .before .loop in
-    let rest = take (length b - l .at) (drop (l .at) b) in
-    let w = walk-inside (a .h) (a .count) b (a .releases .now) (a .deadlines .now) (a .volumes .now) (s .pre) (l .at) (l .job) (l .releases) (l .deadlines) (l .volumes) (l .inv) rest (k .result) (t .loop-test .taken) (part-rest (l .at) b) (k .ensures) (c .before .before .f .given .0 .0) (c .before .before .f .given .1) in
-    omega (arith, w)
+    let b = t .before .before .before .before .before .before .args .bytes .now in
+    omega (arith, walk-inside (l .inv) (t .loop-test .taken) (part-rest (l .at) b) (k .ensures) (c .before .before .f .given .0 .0) (c .before .before .f .given .1))
 
 add-job : tie.Need-add-job Inv-loop μ-loop
 add-job c = search needs
@@ -76,12 +69,9 @@ loop-again : tie.Need-loop-again Inv-loop μ-loop
 loop-again c =
     let k = c .before .before .before .before .read in
     let t = c .before .before .before .before .before .before in
-    let s = t .before .before .before .before .before .before in
-    let a = s .args in
-    let b = a .bytes .now in
     let l = t .before .loop in
-    let rest = take (length b - l .at) (drop (l .at) b) in
-    walk-next (a .h) (a .count) b (a .releases .now) (a .deadlines .now) (a .volumes .now) (s .pre) (l .at) (l .job) (l .releases) (l .deadlines) (l .volumes) (l .inv) rest (k .result) (t .loop-test .taken) (part-rest (l .at) b) (k .ensures) (c .before .before .f .given .0 .0) (c .before .before .f .given .1)
+    let b = t .before .before .before .before .before .before .args .bytes .now in
+    walk-next (l .inv) (t .loop-test .taken) (part-rest (l .at) b) (k .ensures) (c .before .before .f .given .0 .0) (c .before .before .f .given .1)
 
 enum-known-r : tie.Need-enum-known-r Inv-loop μ-loop
 enum-known-r c = search needs
@@ -99,12 +89,9 @@ returns : tie.Need-returns Inv-loop μ-loop
 returns c =
     let k = c .before .before .before .read in
     let t = c .before .before .before .before .before in
-    let s = t .before .before .before .before .before .before in
-    let a = s .args in
-    let b = a .bytes .now in
     let l = t .before .loop in
-    let rest = take (length b - l .at) (drop (l .at) b) in
-    walk-stop (a .h) (a .count) b (a .releases .now) (a .deadlines .now) (a .volumes .now) (s .pre) (l .at) (l .job) (l .releases) (l .deadlines) (l .volumes) (l .inv) rest (k .result) (t .loop-test .taken) (part-rest (l .at) b) (k .ensures) (c .before .r .given .0 .0) (c .before .r .given .1)
+    let b = t .before .before .before .before .before .before .args .bytes .now in
+    walk-stop (l .inv) (t .loop-test .taken) (part-rest (l .at) b) (k .ensures) (c .before .r .given .0 .0) (c .before .r .given .1)
 
 same-length-4 : tie.Need-same-length-4 Inv-loop μ-loop
 same-length-4 c = c .before .before .loop .inv .releases .same
@@ -116,12 +103,7 @@ same-length-6 : tie.Need-same-length-6 Inv-loop μ-loop
 same-length-6 c = c .before .before .loop .inv .volumes .same
 
 returns-2 : tie.Need-returns-2 Inv-loop μ-loop
-returns-2 c =
-    let s = c .before .before .before .before .before .before .before in
-    let a = s .args in
-    let b = a .bytes .now in
-    let l = c .before .before .loop in
-    walk-left-over (a .h) (a .count) b (a .releases .now) (a .deadlines .now) (a .volumes .now) (s .pre) (l .at) (l .job) (l .releases) (l .deadlines) (l .volumes) (l .inv) (c .before .loop-test .left) (c .if1 .taken)
+returns-2 c = walk-left-over (c .before .before .loop .inv) (c .before .loop-test .left) (c .if1 .taken)
 
 same-length-7 : tie.Need-same-length-7 Inv-loop μ-loop
 same-length-7 c = c .before .before .loop .inv .releases .same
@@ -133,12 +115,7 @@ same-length-9 : tie.Need-same-length-9 Inv-loop μ-loop
 same-length-9 c = c .before .before .loop .inv .volumes .same
 
 returns-3 : tie.Need-returns-3 Inv-loop μ-loop
-returns-3 c =
-    let s = c .before .before .before .before .before .before .before in
-    let a = s .args in
-    let b = a .bytes .now in
-    let l = c .before .before .loop in
-    walk-end (a .h) (a .count) b (a .releases .now) (a .deadlines .now) (a .volumes .now) (s .pre) (l .at) (l .job) (l .releases) (l .deadlines) (l .volumes) (l .inv) (c .before .loop-test .left) (c .if1 .left)
+returns-3 c = walk-end (c .before .before .loop .inv) (c .before .before .before .before .before .before .before .pre) (c .before .loop-test .left) (c .if1 .left)
 
 pub walk-spec : {M : Type 1} → statement M
 walk-spec =
