@@ -1,7 +1,7 @@
--- The fields of an entry where their bits stand, bounds of where they lie, and the ways out of the checks of an entry.
+-- The fields of an entry where their bits stand, and the ways out of the checks of an entry.
 use Prim.Native.Nat.{ℕ, _+_, _*_, _≤_, _<_}
-use mathlib.Core.Path.{_≡_, sym, _∙_}
-use mathlib.Core.Bool.{Bool, true, false}
+use mathlib.Core.Path.{_≡_, refl, sym, ap, _∙_}
+use mathlib.Core.Bool.{Bool, true, false, _&&_}
 use mathlib.Core.List.{List}
 use native.Mathlib.Nat.{add-zero}
 use native.Mathlib.Omega.{arith}
@@ -10,86 +10,104 @@ use lib.ListN.{length, getD, drop}
 use lib.Seq.{getD-drop}
 use lib.Dec.{eqb}
 use Rattle.sched.specs.Checks.{jobCheck}
+use Rattle.sched.specs.declared.Refusal.{Refusal}
 use Rattle.sched.specs.declared.Refusal.the-variants.{Truncated, UnknownBit, Redundant}
 use Rattle.sched.specs.declared.Checked.{Checked}
-use Rattle.sched.specs.declared.Checked.the-variants.{Refused}
+use Rattle.sched.specs.declared.Checked.the-variants.{Passed, Refused as Faulty}
 use Rattle.joblist.specs.Bytes.{word, width, absentRelease, absentDeadline, absentVolume, hasRelease, hasDeadline, hasVolume, releaseAt, deadlineAt, volumeAt, entryLength}
-use Rattle.joblist.specs.Reading.{mapOf, valueIf, releaseOf, deadlineOf, volumeOf, redundant, fieldsCheck, entryCheck}
+use Rattle.joblist.specs.Reading.{mapOf, valueIf, redundant, fieldsCheck, entryCheck}
+use Rattle.joblist.specs.Helpers.{FoundAt, entryOf}
+use Rattle.joblist.specs.declared.entry.Found.{Found}
+use Rattle.joblist.specs.declared.entry.Entry.{Entry}
+use Rattle.joblist.specs.declared.entry.Entry.the-variants.{Read, Refused}
 
 pub width-small : (b : Bool) → width b ≤ 2
 width-small true = omega arith
 width-small false = omega arith
 
-pub deadline-at-small : (m : ℕ) → deadlineAt m ≤ 3
-deadline-at-small m = omega (arith, width-small (hasRelease m))
+pub word-at : (bs : List ℕ) (at : ℕ) → getD bs at 0 + 256 * getD bs (at + 1) 0 ≡ word (drop at bs)
+word-at bs at = simp (getD-drop, add-zero)
 
-pub volume-at-small : (m : ℕ) → volumeAt m ≤ 5
-volume-at-small m = omega (arith, deadline-at-small m, width-small (hasDeadline m))
+-- a field that stands, and one that does not
+pub stands-at : (b : Bool) (absent w at : ℕ) (bs : List ℕ) → b ≡ true → w ≡ word (drop at bs) → FoundAt b absent at bs (record { value = w; next = at + 2 })
+stands-at b absent w at bs p e = record { value = rw p e; next = rw p }
 
-pub word-at : (bs : List ℕ) (at low high : ℕ) → low ≡ getD bs at 0 → high ≡ getD bs (at + 1) 0 → low + 256 * high ≡ word (drop at bs)
-word-at bs at low high l h = rw (l, h) (simp (getD-drop, add-zero))
+pub absent-at : (b : Bool) (absent at : ℕ) (bs : List ℕ) → b ≡ false → FoundAt b absent at bs (record { value = absent; next = at })
+absent-at b absent at bs p = record { value = rw p; next = rw (p, add-zero) }
 
-pub value-stands : (b : Bool) (absent w : ℕ) (bs : List ℕ) → b ≡ true → w ≡ word bs → w ≡ valueIf b absent bs
-value-stands b absent w bs p e = rw p e
+-- a field as it was read: its value, the offset behind it, and whether it stands with its absent value
+pub record FieldRead (stands : Bool) (place absent : ℕ) (bs : List ℕ) (f : Found) (test : Bool) : Type 0 where
+  pub value : f .value ≡ valueIf stands absent (drop place bs)
+  pub next : f .next ≡ place + width stands
+  pub tested : redundant stands absent (drop place bs) ≡ test
 
-pub redundant-stands : (b : Bool) (absent w : ℕ) (bs : List ℕ) → b ≡ true → w ≡ word bs → eqb w absent ≡ redundant b absent bs
-redundant-stands b absent w bs p e = rw (p, e)
+test-of-value : (stands : Bool) (absent x : ℕ) (bs : List ℕ) → x ≡ valueIf stands absent bs → redundant stands absent bs ≡ (stands && eqb x absent)
+test-of-value true absent x bs e = rw e
+test-of-value false absent x bs e = refl
 
--- the length of an entry as the code finds it
-pub sized : (bs : List ℕ) (map size : ℕ) → map ≡ mapOf bs → size ≡ entryLength map → size ≡ entryLength (mapOf bs)
-sized bs map size m s = rw (s, m)
+pub field-read : (stands : Bool) (place absent : ℕ) (bs : List ℕ) {has : Bool} {at : ℕ} {f : Found} {found test : Bool} → has ≡ stands → at ≡ place → FoundAt has absent at bs f → found ≡ (has && eqb (f .value) absent) → found ≡ test → FieldRead stands place absent bs f test
+field-read stands place absent bs {has} {at} {f} s p v w e =
+    rw (← s, ← p)
+    record { value = v .value; next = v .next; tested = test-of-value has absent (f .value) (drop at bs) (v .value) ∙ sym w ∙ e }
 
--- what the code finds at a field, from the map byte on, is what the definition says
-pub at-field : {A : Type 0} (f : Bool → List ℕ → A) (has : ℕ → Bool) (place : ℕ → ℕ) (bs : List ℕ) (map at : ℕ) (stands : Bool) (found : A) → map ≡ mapOf bs → stands ≡ has map → at ≡ place map → found ≡ f stands (drop at bs) → found ≡ f (has (mapOf bs)) (drop (place (mapOf bs)) bs)
-at-field f has place bs map at stands found m s p e = rw (← m, ← s, ← p) e
+abbrev pub First : List ℕ → Found → Bool → Type 0
+First bs = FieldRead (hasRelease (mapOf bs)) releaseAt absentRelease bs
 
-pub tested : (has : ℕ → Bool) (place : ℕ → ℕ) (absent : ℕ) (bs : List ℕ) (map at : ℕ) (stands found b : Bool) → map ≡ mapOf bs → stands ≡ has map → at ≡ place map → found ≡ redundant stands absent (drop at bs) → found ≡ b → redundant (has (mapOf bs)) absent (drop (place (mapOf bs)) bs) ≡ b
-tested has place absent bs map at stands found b m s p f e =
-    sym (at-field (λ t l. redundant t absent l) has place bs map at stands found m s p f) ∙ e
+abbrev pub Second : ℕ → List ℕ → Found → Bool → Type 0
+Second h bs = FieldRead (hasDeadline (mapOf bs)) (deadlineAt (mapOf bs)) (absentDeadline h) bs
+
+abbrev pub Third : List ℕ → Found → Bool → Type 0
+Third bs = FieldRead (hasVolume (mapOf bs)) (volumeAt (mapOf bs)) absentVolume bs
 
 -- the ways out of the checks of a job's fields
 module _ (h j at : ℕ) (bs : List ℕ) where
-  abbrev firstTest : Bool
-  firstTest = redundant (hasRelease (mapOf bs)) absentRelease (drop releaseAt bs)
+  abbrev answer : Entry
+  answer = entryOf (fieldsCheck h j at bs) h bs
 
-  abbrev secondTest : Bool
-  secondTest = redundant (hasDeadline (mapOf bs)) (absentDeadline h) (drop (deadlineAt (mapOf bs)) bs)
-
-  abbrev thirdTest : Bool
-  thirdTest = redundant (hasVolume (mapOf bs)) absentVolume (drop (volumeAt (mapOf bs)) bs)
-
-  pub release-refused : firstTest ≡ true → Refused (Redundant (at + releaseAt)) ≡ fieldsCheck h j at bs
+  pub release-refused : {r : Found} → First bs r true → Refused (Redundant (at + releaseAt)) ≡ answer
   unfolding fieldsCheck
-  release-refused a = rw a
+  release-refused a = rw (a .tested)
 
-  pub deadline-refused : (map place : ℕ) → map ≡ mapOf bs → place ≡ deadlineAt map → firstTest ≡ false → secondTest ≡ true → Refused (Redundant (at + place)) ≡ fieldsCheck h j at bs
+  pub deadline-refused : {r d : Found} → First bs r false → Second h bs d true → Refused (Redundant (at + r .next)) ≡ answer
   unfolding fieldsCheck
-  deadline-refused map place m p a b = rw (p, m, a, b)
+  deadline-refused a b = rw (a .next, a .tested, b .tested)
 
-  pub volume-refused : (map place : ℕ) → map ≡ mapOf bs → place ≡ volumeAt map → firstTest ≡ false → secondTest ≡ false → thirdTest ≡ true → Refused (Redundant (at + place)) ≡ fieldsCheck h j at bs
+  pub volume-refused : {r d p : Found} → First bs r false → Second h bs d false → Third bs p true → Refused (Redundant (at + d .next)) ≡ answer
   unfolding fieldsCheck
-  volume-refused map place m p a b c = rw (p, m, a, b, c)
+  volume-refused a b c = rw (b .next, a .tested, b .tested, c .tested)
 
-  pub job-decides : (r d p : ℕ) (answer : Checked) → r ≡ releaseOf bs → d ≡ deadlineOf h bs → p ≡ volumeOf bs → firstTest ≡ false → secondTest ≡ false → thirdTest ≡ false → answer ≡ jobCheck h j r d p → answer ≡ fieldsCheck h j at bs
-  unfolding fieldsCheck
-  job-decides r d p answer er ed ep a b c e = rw (a, b, c, ← er, ← ed, ← ep) e
+  module _ {r d p : Found} (a : First bs r false) (b : Second h bs d false) (c : Third bs p false) (check : Checked) (e : check ≡ jobCheck h j (r .value) (d .value) (p .value)) where
+    job-decides : (got : Checked) → check ≡ got → got ≡ fieldsCheck h j at bs
+    unfolding fieldsCheck
+    job-decides got f = sym f ∙ rw (a .tested, b .tested, c .tested, ← a .value, ← b .value, ← c .value) e
+
+    pub job-refused : (x : Refusal) → check ≡ Faulty x → Refused x ≡ answer
+    job-refused x f = ap (λ (y : Checked). entryOf y h bs) (job-decides (Faulty x) f)
+
+    pub job-read : check ≡ Passed → Read (record { release = r .value; deadline = d .value; volume = p .value; size = p .next }) ≡ answer
+    job-read f =
+        ap Read (λ i. record { release = a .value i; deadline = b .value i; volume = c .value i; size = c .next i })
+        ∙ ap (λ (y : Checked). entryOf y h bs) (job-decides Passed f)
 
 -- the ways out of the checks of an entry
 module _ (h n j at : ℕ) (bs : List ℕ) where
-  pub map-missing : length bs ≡ 0 → Refused (Truncated n) ≡ entryCheck h n j at bs
+  abbrev told : Entry
+  told = entryOf (entryCheck h n j at bs) h bs
+
+  pub map-missing : length bs ≡ 0 → Refused (Truncated n) ≡ told
   unfolding entryCheck
   map-missing e = rw (eq-eqb (length bs) 0 e)
 
-  pub bit-unknown : (map : ℕ) → map ≡ mapOf bs → (length bs ≡ 0 → ⊥) → 8 ≤ map → Refused (UnknownBit at) ≡ entryCheck h n j at bs
+  pub bit-unknown : (length bs ≡ 0 → ⊥) → 8 ≤ mapOf bs → Refused (UnknownBit at) ≡ told
   unfolding entryCheck
-  bit-unknown map m s l = rw (ne-eqb (length bs) 0 s, le-leb 8 (mapOf bs) (omega arith))
+  bit-unknown s l = rw (ne-eqb (length bs) 0 s, le-leb 8 (mapOf bs) l)
 
-  pub field-missing : (map size : ℕ) → map ≡ mapOf bs → size ≡ entryLength map → (length bs ≡ 0 → ⊥) → map < 8 → length bs < size → Refused (Truncated n) ≡ entryCheck h n j at bs
+  pub field-missing : (size : ℕ) → size ≡ entryLength (mapOf bs) → (length bs ≡ 0 → ⊥) → mapOf bs < 8 → length bs < size → Refused (Truncated n) ≡ told
   unfolding entryCheck
-  field-missing map size m z s l t =
-      rw (ne-eqb (length bs) 0 s, lt-leb 8 (mapOf bs) (omega arith), lt-ltb (length bs) (entryLength (mapOf bs)) (omega (arith, sized bs map size m z)))
+  field-missing size z s l t =
+      rw (ne-eqb (length bs) 0 s, lt-leb 8 (mapOf bs) l, lt-ltb (length bs) (entryLength (mapOf bs)) (omega arith))
 
-  pub fields-decide : (map size : ℕ) (answer : Checked) → map ≡ mapOf bs → size ≡ entryLength map → (length bs ≡ 0 → ⊥) → map < 8 → size ≤ length bs → answer ≡ fieldsCheck h j at bs → answer ≡ entryCheck h n j at bs
+  pub fields-decide : (size : ℕ) (answer : Entry) → size ≡ entryLength (mapOf bs) → (length bs ≡ 0 → ⊥) → mapOf bs < 8 → size ≤ length bs → answer ≡ entryOf (fieldsCheck h j at bs) h bs → answer ≡ told
   unfolding entryCheck
-  fields-decide map size answer m z s l t e =
-      rw (ne-eqb (length bs) 0 s, lt-leb 8 (mapOf bs) (omega arith), le-ltb (length bs) (entryLength (mapOf bs)) (omega (arith, sized bs map size m z))) e
+  fields-decide size answer z s l t e =
+      rw (ne-eqb (length bs) 0 s, lt-leb 8 (mapOf bs) l, le-ltb (length bs) (entryLength (mapOf bs)) (omega arith)) e

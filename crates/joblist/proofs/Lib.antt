@@ -1,4 +1,5 @@
 pub mod Fields
 pub mod Walk
+pub mod Copied
 pub mod Promises
 pub mod Spelling

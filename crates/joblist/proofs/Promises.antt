@@ -1,6 +1,6 @@
 -- From what the parts of `read` and `write` promise to what the two promise.
 use Prim.Native.Nat.{ℕ, _+_, _≤_, _<_}
-use mathlib.Core.Path.{_≡_, ap, _∙_, sym}
+use mathlib.Core.Path.{_≡_, refl, ap, _∙_, sym}
 use mathlib.Core.List.{List}
 use native.Mathlib.Nat.{zero-add}
 use native.Mathlib.Omega.{arith}
@@ -10,72 +10,93 @@ use lib.Dec.{ltb}
 use lib.Seq.{sets, sets-eq}
 use Rattle.sched.specs.Jobs.{Jobs}
 use Rattle.sched.specs.Checks.{unless, andThen}
-use Rattle.sched.specs.Checks.Laws.{checkOf, passed-passes}
+use Rattle.sched.specs.Checks.Laws.{checkOf, passed-passes, then-passed}
 use Rattle.sched.specs.declared.Refusal.{Refusal}
 use Rattle.sched.specs.declared.Refusal.the-variants.{TooShort}
 use Rattle.sched.specs.declared.Checked.{Checked}
 use Rattle.sched.specs.declared.Checked.the-variants.{Passed, Refused as Faulty}
-use Rattle.joblist.specs.Reading.{readCheck, Reading, reading, readNumber, readValues, ReadPromise, headerCheck, lentCheck, entriesCheck}
+use Rattle.joblist.specs.Reading.{readCheck, Reading, reading, accepted, afterCheck as afterRead, readNumber, readValues, ReadPromise, headerCheck, lentCheck}
 use Rattle.joblist.specs.Bytes.{spelling, headerLength, headerHorizon, headerCount, entriesBytes}
 use Rattle.joblist.specs.Writing.{writeCheck, Writing, afterCheck, writing, writtenNumber, writtenValues, WritePromise}
-use Rattle.joblist.specs.Helpers.{HeaderOf, Fillable, Filled, EqualLists}
+use Rattle.joblist.specs.Helpers.{HeaderOf, frontCheck, behindHeader, Fillable, Filled, EqualLists}
 use Rattle.joblist.specs.Laws.Passing.{then-next, then-stop, told}
-use Rattle.joblist.specs.Laws.Input.{read-passed, reading-accepted, reading-refused}
+use Rattle.joblist.specs.Laws.Input.{header-passed, lent-passed, reading-accepted, reading-refused}
 use Rattle.joblist.specs.declared.ListHeader.{ListHeader}
+use Rattle.joblist.specs.declared.ListRead.{ListRead}
 use Rattle.joblist.specs.declared.ListRead.the-variants.{Read, Refused}
 use Rattle.joblist.specs.declared.ListWritten.the-variants.{Written, Refused as NotWritten}
 use Rattle.joblist.proofs.Spelling.{spelling-length}
 
-pub fillable : (bytes rs ds ps : List ℕ) (list : ListHeader) (c : Checked) → c ≡ readCheck bytes (length rs) (length ds) (length ps) → c ≡ Passed → HeaderOf bytes list → Fillable (list .h) (list .count) bytes rs ds ps
-fillable bytes rs ds ps list c a e o =
-    let g = read-passed bytes (length rs) (length ds) (length ps) (told c (readCheck bytes (length rs) (length ds) (length ps)) Passed a e) in
-    record {
-      long = g .header .long;
-      passed = rw (o .h, o .count) (g .entries);
-      releases = rw (o .count) (g .room .releases);
-      deadlines = rw (o .count) (g .room .deadlines);
-      volumes = rw (o .count) (g .room .volumes);
-    }
+-- the checks before the entries
+pub front-lent : (bytes : List ℕ) (r d p : ℕ) (list : ListHeader) (answer : Checked) → HeaderOf bytes list → headerCheck bytes ≡ Passed → answer ≡ lentCheck (list .count) r d p → answer ≡ frontCheck bytes r d p
+front-lent bytes r d p list answer o a e = then-next (headerCheck bytes) (lentCheck (headerCount bytes) r d p) answer a (rw (o .count) at e)
 
-pub read-accepted : (bytes rs ds ps rs′ ds′ ps′ : List ℕ) (list : ListHeader) (c : Checked) → c ≡ readCheck bytes (length rs) (length ds) (length ps) → c ≡ Passed → HeaderOf bytes list → Filled (list .h) (list .count) bytes rs ds ps rs′ ds′ ps′ → ReadPromise bytes rs ds ps (Read list) rs′ ds′ ps′
-read-accepted bytes rs ds ps rs′ ds′ ps′ list c a e o f =
-    let q = sym (reading-accepted bytes rs ds ps (told c (readCheck bytes (length rs) (length ds) (length ps)) Passed a e)) in
-    let t : Read list ≡ reading bytes rs ds ps .answer = ap Read (λ i. record { h = o .h i; q = o .q i; count = o .count i }) ∙ ap (λ (x : Reading). x .answer) q in
-    record {
-      told = t;
-      number = ap readNumber t;
-      values = ap readValues t;
-      releases = (rw (o .count) at (f .releases)) ∙ ap (λ (x : Reading). x .releases) q;
-      deadlines = (rw (o .count, o .h) at (f .deadlines)) ∙ ap (λ (x : Reading). x .deadlines) q;
-      volumes = (rw (o .count) at (f .volumes)) ∙ ap (λ (x : Reading). x .volumes) q;
-    }
+then-then : (a b c : Checked) → andThen a (andThen b c) ≡ andThen (andThen a b) c
+then-then Passed b c = refl
+then-then (Faulty r) b c = refl
 
-pub read-refused : (bytes rs ds ps : List ℕ) (r : Refusal) (c : Checked) → c ≡ readCheck bytes (length rs) (length ds) (length ps) → c ≡ Faulty r → ReadPromise bytes rs ds ps (Refused r) rs ds ps
-read-refused bytes rs ds ps r c a e =
-    let q = sym (reading-refused bytes rs ds ps r (told c (readCheck bytes (length rs) (length ds) (length ps)) (Faulty r) a e)) in
-    let t : Refused r ≡ reading bytes rs ds ps .answer = ap (λ (x : Reading). x .answer) q in
-    record {
-      told = t;
-      number = ap readNumber t;
-      values = ap readValues t;
-      releases = ap (λ (x : Reading). x .releases) q;
-      deadlines = ap (λ (x : Reading). x .deadlines) q;
-      volumes = ap (λ (x : Reading). x .volumes) q;
-    }
+-- from what the parts of `read` promise: the checks before the entries, the header, and what filled the lists
+module _ (bytes rs ds ps : List ℕ) (front : Checked) (a : front ≡ frontCheck bytes (length rs) (length ds) (length ps)) where
+  abbrev lent : Checked
+  lent = lentCheck (headerCount bytes) (length rs) (length ds) (length ps)
 
--- the checks of the reader, part by part
-module _ (bytes : List ℕ) (r d p : ℕ) (list : ListHeader) (o : HeaderOf bytes list) where
-  pub entries-decide : (answer : Checked) → headerCheck bytes ≡ Passed → lentCheck (list .count) r d p ≡ Passed → answer ≡ entriesCheck (list .count) (list .h) (length bytes) 0 headerLength (drop headerLength bytes) → answer ≡ readCheck bytes r d p
-  entries-decide answer a b e =
-      let x : Checked = entriesCheck (headerCount bytes) (headerHorizon bytes) (length bytes) 0 headerLength (drop headerLength bytes) in
-      let y : Checked = lentCheck (headerCount bytes) r d p in
-      then-next (headerCheck bytes) (andThen y x) answer a (then-next y x answer (rw (o .count) at b) (rw (o .count, o .h) at e))
+  abbrev entries : Checked
+  entries = behindHeader (headerHorizon bytes) (headerCount bytes) bytes
 
-  pub lent-refused : (f : Refusal) → headerCheck bytes ≡ Passed → lentCheck (list .count) r d p ≡ Faulty f → Faulty f ≡ readCheck bytes r d p
-  lent-refused f a b =
-      let x : Checked = entriesCheck (headerCount bytes) (headerHorizon bytes) (length bytes) 0 headerLength (drop headerLength bytes) in
-      let y : Checked = lentCheck (headerCount bytes) r d p in
-      then-next (headerCheck bytes) (andThen y x) (Faulty f) a (then-stop y x f (rw (o .count) at b))
+  promised : (x : Reading) (rs′ ds′ ps′ : List ℕ) (answer : ListRead) → reading bytes rs ds ps ≡ x → answer ≡ x .answer → rs′ ≡ x .releases → ds′ ≡ x .deadlines → ps′ ≡ x .volumes → ReadPromise bytes rs ds ps answer rs′ ds′ ps′
+  promised x rs′ ds′ ps′ answer e t r d p =
+      let q = sym e in
+      let t′ : answer ≡ reading bytes rs ds ps .answer = t ∙ ap (λ (y : Reading). y .answer) q in
+      record {
+        told = t′;
+        number = ap readNumber t′;
+        values = ap readValues t′;
+        releases = r ∙ ap (λ (y : Reading). y .releases) q;
+        deadlines = d ∙ ap (λ (y : Reading). y .deadlines) q;
+        volumes = p ∙ ap (λ (y : Reading). y .volumes) q;
+      }
+
+  pub front-refused : (r : Refusal) → front ≡ Faulty r → ReadPromise bytes rs ds ps (Refused r) rs ds ps
+  front-refused r e =
+      let q = then-then (headerCheck bytes) lent entries ∙ sym (then-stop (andThen (headerCheck bytes) lent) entries r (told front (andThen (headerCheck bytes) lent) (Faulty r) a e)) in
+      promised (afterRead (Faulty r) bytes rs ds ps) rs ds ps (Refused r) (reading-refused bytes rs ds ps r q) refl refl refl refl
+
+  module _ (passed : front ≡ Passed) where
+    front-passed : (headerCheck bytes ≡ Passed) × (lent ≡ Passed)
+    front-passed = then-passed (headerCheck bytes) lent (told front (andThen (headerCheck bytes) lent) Passed a passed)
+
+    pub long : headerLength ≤ length bytes
+    long = header-passed bytes (front-passed .0) .long
+
+    module _ (list : ListHeader) (o : HeaderOf bytes list) where
+      pub fillable : Fillable (list .count) bytes rs ds ps
+      fillable =
+          let g = header-passed bytes (front-passed .0) in
+          let m = lent-passed (headerCount bytes) (length rs) (length ds) (length ps) (front-passed .1) in
+          record {
+            long = g .long;
+            few = rw (o .count) (g .few);
+            releases = rw (o .count) (m .releases);
+            deadlines = rw (o .count) (m .deadlines);
+            volumes = rw (o .count) (m .volumes);
+          }
+
+      -- the checks of the entries decide
+      entries-decide : (c : Checked) → c ≡ behindHeader (list .h) (list .count) bytes → readCheck bytes (length rs) (length ds) (length ps) ≡ c
+      entries-decide c e =
+          sym (then-next (headerCheck bytes) (andThen lent entries) c (front-passed .0) (then-next lent entries c (front-passed .1) (rw (o .count, o .h) at e)))
+
+      module _ (rs′ ds′ ps′ : List ℕ) (c : Checked) (f : Filled (list .h) (list .count) bytes rs ds ps c rs′ ds′ ps′) where
+        pub read-accepted : c ≡ Passed → ReadPromise bytes rs ds ps (Read list) rs′ ds′ ps′
+        read-accepted e =
+            promised (accepted bytes rs ds ps) rs′ ds′ ps′ (Read list) (reading-accepted bytes rs ds ps (entries-decide c (f .told) ∙ e))
+            (ap Read (λ i. record { h = o .h i; q = o .q i; count = o .count i }))
+            (rw (e, o .count) at (f .releases)) (rw (e, o .count, o .h) at (f .deadlines)) (rw (e, o .count) at (f .volumes))
+
+        pub read-refused : (r : Refusal) → c ≡ Faulty r → ReadPromise bytes rs ds ps (Refused r) rs′ ds′ ps′
+        read-refused r e =
+            promised (afterRead (Faulty r) bytes rs ds ps) rs′ ds′ ps′ (Refused r) (reading-refused bytes rs ds ps r (entries-decide c (f .told) ∙ e)) refl
+            (rw e at (f .releases)) (rw e at (f .deadlines)) (rw e at (f .volumes))
 
 pub equal-lists : (J : Jobs) (c : Checked) → c ≡ checkOf J → c ≡ Passed → EqualLists (J .releases) (J .deadlines) (J .volumes)
 equal-lists J c a e =

@@ -1,13 +1,20 @@
 -- What the private functions of the reader and the writer ask and promise, part by part.
-use Prim.Native.Nat.{ℕ, _+_, _≤_}
+use Prim.Native.Nat.{ℕ, _+_, _^_, _≤_, _<_}
 use mathlib.Core.Path.{_≡_}
+use mathlib.Core.Bool.{Bool}
 use mathlib.Core.List.{List, _++_}
-use lib.ListN.{length, drop}
+use lib.ListN.{length, take, drop}
 use lib.Seq.{sets}
-use Rattle.sched.specs.declared.Checked.the-variants.{Passed}
-use Rattle.joblist.specs.Bytes.{headerLength, headerHorizon, headerWake, headerCount, entriesBytes}
-use Rattle.joblist.specs.Reading.{releaseOf, deadlineOf, volumeOf, entriesCheck, column}
+use Rattle.sched.specs.Checks.{andThen}
+use Rattle.sched.specs.declared.Checked.{Checked}
+use Rattle.sched.specs.declared.Checked.the-variants.{Passed, Refused as Faulty}
+use Rattle.joblist.specs.Bytes.{headerLength, headerHorizon, headerWake, headerCount, width, entryLength, entriesBytes}
+use Rattle.joblist.specs.Reading.{mapOf, valueIf, releaseOf, deadlineOf, volumeOf, headerCheck, lentCheck, entriesCheck, column}
 use Rattle.joblist.specs.declared.ListHeader.{ListHeader}
+use Rattle.joblist.specs.declared.entry.Found.{Found}
+use Rattle.joblist.specs.declared.entry.Fields.{Fields}
+use Rattle.joblist.specs.declared.entry.Entry.{Entry}
+use Rattle.joblist.specs.declared.entry.Entry.the-variants.{Read, Refused}
 
 -- the header of a list's bytes
 pub record HeaderOf (bytes : List ℕ) (list : ListHeader) : Type 0 where
@@ -15,19 +22,57 @@ pub record HeaderOf (bytes : List ℕ) (list : ListHeader) : Type 0 where
   pub q : list .q ≡ headerWake bytes
   pub count : list .count ≡ headerCount bytes
 
--- the entries pass the checks, and the three lists have room
-pub record Fillable (h count : ℕ) (bytes rs ds ps : List ℕ) : Type 0 where
+-- the checks before the entries
+abbrev pub frontCheck : List ℕ → ℕ → ℕ → ℕ → Checked
+frontCheck bytes r d p = andThen (headerCheck bytes) (lentCheck (headerCount bytes) r d p)
+
+-- a field at an offset: its value, and the offset behind it
+pub record FoundAt (stands : Bool) (absent at : ℕ) (bs : List ℕ) (f : Found) : Type 0 where
+  pub value : f .value ≡ valueIf stands absent (drop at bs)
+  pub next : f .next ≡ at + width stands
+
+-- a map byte and all bytes of its fields, at an offset of the input
+pub record WholeEntry (at : ℕ) (bs : List ℕ) : Type 0 where
+  pub whole : entryLength (mapOf bs) ≤ length bs
+  pub fits : at + length bs < 2 ^ 64
+
+-- what is read of an entry: its fields where its checks pass
+abbrev pub fieldsOf : ℕ → List ℕ → Fields
+fieldsOf h bs = record { release = releaseOf bs; deadline = deadlineOf h bs; volume = volumeOf bs; size = entryLength (mapOf bs) }
+
+abbrev pub entryOf : Checked → ℕ → List ℕ → Entry
+entryOf Passed h bs = Read (fieldsOf h bs)
+entryOf (Faulty r) h bs = Refused r
+
+-- the checks of the entries behind the header
+abbrev pub behindHeader : ℕ → ℕ → List ℕ → Checked
+behindHeader h count bytes = entriesCheck count h (length bytes) 0 headerLength (drop headerLength bytes)
+
+-- the bytes hold a header, and the three lists have room
+pub record Fillable (count : ℕ) (bytes rs ds ps : List ℕ) : Type 0 where
   pub long : headerLength ≤ length bytes
-  pub passed : entriesCheck count h (length bytes) 0 headerLength (drop headerLength bytes) ≡ Passed
+  pub few : count ≤ 64
   pub releases : count ≤ length rs
   pub deadlines : count ≤ length ds
   pub volumes : count ≤ length ps
 
--- the three lists after the jobs have been put in
-pub record Filled (h count : ℕ) (bytes rs ds ps rs′ ds′ ps′ : List ℕ) : Type 0 where
-  pub releases : rs′ ≡ column releaseOf count (drop headerLength bytes) ++ drop count rs
-  pub deadlines : ds′ ≡ column (deadlineOf h) count (drop headerLength bytes) ++ drop count ds
-  pub volumes : ps′ ≡ column volumeOf count (drop headerLength bytes) ++ drop count ps
+-- the answer of the walk, and the fields at the front of three lists if it passes
+pub record Walked (h count : ℕ) (bytes : List ℕ) (answer : Checked) (rs ds ps : List ℕ) : Type 0 where
+  pub told : answer ≡ behindHeader h count bytes
+  pub releases : answer ≡ Passed → take count rs ≡ column releaseOf count (drop headerLength bytes)
+  pub deadlines : answer ≡ Passed → take count ds ≡ column (deadlineOf h) count (drop headerLength bytes)
+  pub volumes : answer ≡ Passed → take count ps ≡ column volumeOf count (drop headerLength bytes)
+
+-- a lent list afterwards: one field of each job, then what stood behind, or all as it was
+abbrev pub filledIf : Checked → (List ℕ → ℕ) → ℕ → List ℕ → List ℕ → List ℕ
+filledIf Passed field count bytes lent = column field count (drop headerLength bytes) ++ drop count lent
+filledIf (Faulty r) field count bytes lent = lent
+
+pub record Filled (h count : ℕ) (bytes rs ds ps : List ℕ) (answer : Checked) (rs′ ds′ ps′ : List ℕ) : Type 0 where
+  pub told : answer ≡ behindHeader h count bytes
+  pub releases : rs′ ≡ filledIf answer releaseOf count bytes rs
+  pub deadlines : ds′ ≡ filledIf answer (deadlineOf h) count bytes ds
+  pub volumes : ps′ ≡ filledIf answer volumeOf count bytes ps
 
 -- three lists of one length, at most 64
 pub record EqualLists (rs ds ps : List ℕ) : Type 0 where

@@ -1,25 +1,40 @@
 // One job in its bytes: a map byte, and the fields whose bits stand. `bytes` starts with the map byte.
 ghost use mathlib.Core.Path.{_≡_};
-ghost use Prim.Native.Nat.{_+_, _^_, _≤_, _<_};
-ghost use lib.ListN.{length, getD, drop};
-ghost use Rattle.joblist.specs.Bytes.{word, hasRelease, hasDeadline, hasVolume, width, deadlineAt, volumeAt, entryLength};
-ghost use Rattle.joblist.specs.Reading.{mapOf, valueIf, releaseOf, deadlineOf, volumeOf, redundant, fieldsCheck, entryCheck};
+ghost use mathlib.Core.Bool.{_&&_};
+ghost use Prim.Native.Nat.{_+_, _≤_};
+ghost use lib.Dec.{eqb};
+ghost use lib.ListN.{length, drop};
+ghost use Rattle.joblist.specs.Bytes.{word, hasRelease, hasDeadline, hasVolume, width, entryLength};
+ghost use Rattle.joblist.specs.Reading.{fieldsCheck, entryCheck};
+ghost use Rattle.joblist.specs.Helpers.{FoundAt, WholeEntry, entryOf};
 use sched::Checked;
 use sched::Refusal;
 
-// The byte at an offset, 0 past the end.
-pub fn byte(bytes: &[u8], at: usize) -> u8
-    ensures { λ r. ⌜ r ≡ getD (now (bytes .entry)) at 0 ⌝ }
-{
-    if at < bytes.len() { bytes[at] } else { 0 }
+// A field's value, and the offset behind the field.
+struct Found {
+    value: u16,
+    next: usize,
+}
+
+// The fields of a job, and the length of its entry.
+pub struct Fields {
+    pub release: u16,
+    pub deadline: u16,
+    pub volume: u16,
+    pub size: usize,
+}
+
+pub enum Entry {
+    Read(Fields),
+    Refused(Refusal),
 }
 
 // The number in the two bytes at an offset.
 pub fn word(bytes: &[u8], at: usize) -> u16
-    requires { ⌜ at ≤ 5 ⌝ }
+    requires { ⌜ at + 2 ≤ length (now bytes) ⌝ }
     ensures { λ r. ⌜ r ≡ word (drop at (now (bytes .entry))) ⌝ }
 {
-    byte(bytes, at) as u16 + 256 * (byte(bytes, at + 1) as u16)
+    bytes[at] as u16 + 256 * (bytes[at + 1] as u16)
 }
 
 fn has_release(map: u8) -> bool
@@ -47,99 +62,84 @@ fn width(stands: bool) -> usize
     if stands { 2 } else { 0 }
 }
 
-fn deadline_at(map: u8) -> usize
-    ensures { λ r. ⌜ r ≡ deadlineAt map ⌝ }
-{
-    1 + width(has_release(map))
-}
-
-fn volume_at(map: u8) -> usize
-    ensures { λ r. ⌜ r ≡ volumeAt map ⌝ }
-{
-    deadline_at(map) + width(has_deadline(map))
-}
-
 // The length of the entry that a map byte starts.
-pub fn size(map: u8) -> usize
+fn size(map: u8) -> usize
     ensures { λ r. ⌜ r ≡ entryLength map ⌝ }
 {
-    volume_at(map) + width(has_volume(map))
+    1 + width(has_release(map)) + width(has_deadline(map)) + width(has_volume(map))
 }
 
-// The value of a field at an offset, or the absent value.
-fn value(stands: bool, absent: u16, bytes: &[u8], at: usize) -> u16
-    requires { ⌜ at ≤ 5 ⌝ }
-    ensures { λ r. ⌜ r ≡ valueIf stands absent (drop at (now (bytes .entry))) ⌝ }
-{
-    if stands { word(bytes, at) } else { absent }
-}
-
-pub fn release(bytes: &[u8]) -> u16
-    ensures { λ r. ⌜ r ≡ releaseOf (now (bytes .entry)) ⌝ }
-{
-    value(has_release(byte(bytes, 0)), 0, bytes, 1)
-}
-
-pub fn deadline(h: u16, bytes: &[u8]) -> u16
-    ensures { λ r. ⌜ r ≡ deadlineOf h (now (bytes .entry)) ⌝ }
-{
-    let map = byte(bytes, 0);
-    value(has_deadline(map), h, bytes, deadline_at(map))
-}
-
-pub fn volume(bytes: &[u8]) -> u16
-    ensures { λ r. ⌜ r ≡ volumeOf (now (bytes .entry)) ⌝ }
-{
-    let map = byte(bytes, 0);
-    value(has_volume(map), 1, bytes, volume_at(map))
-}
-
-// Whether a field stands with its absent value.
-fn is_redundant(stands: bool, absent: u16, bytes: &[u8], at: usize) -> bool
-    requires { ⌜ at ≤ 5 ⌝ }
-    ensures { λ r. ⌜ r ≡ redundant stands absent (drop at (now (bytes .entry))) ⌝ }
+// The field at an offset: its value, or the absent value if it does not stand.
+fn field(stands: bool, absent: u16, bytes: &[u8], at: usize) -> Found
+    requires { ⌜ at + width stands ≤ length (now bytes) ⌝ }
+    ensures { λ f. ⌜ FoundAt stands absent at (now (bytes .entry)) f ⌝ }
 {
     if stands {
-        word(bytes, at) == absent
+        Found {
+            value: word(bytes, at),
+            next: at + 2,
+        }
     } else {
-        false
+        Found {
+            value: absent,
+            next: at,
+        }
     }
 }
 
-// The checks of a job's fields; its map byte stands at offset `at` of the input.
-fn check_fields(h: u16, job: usize, at: usize, bytes: &[u8]) -> Checked
-    requires { ⌜ at + entryLength (mapOf (now bytes)) < 2 ^ 64 ⌝ }
-    ensures { λ c. ⌜ c ≡ fieldsCheck h job at (now (bytes .entry)) ⌝ }
+// Whether a field stands with its absent value, given the value read.
+fn is_redundant(stands: bool, absent: u16, x: u16) -> bool
+    ensures { λ r. ⌜ r ≡ (stands && eqb x absent) ⌝ }
 {
-    let map = byte(bytes, 0);
-    if is_redundant(has_release(map), 0, bytes, 1) {
-        return Checked::Refused(Refusal::Redundant(at + 1));
-    }
-    let second = deadline_at(map);
-    if is_redundant(has_deadline(map), h, bytes, second) {
-        return Checked::Refused(Refusal::Redundant(at + second));
-    }
-    let third = volume_at(map);
-    if is_redundant(has_volume(map), 1, bytes, third) {
-        return Checked::Refused(Refusal::Redundant(at + third));
-    }
-    sched::check_job(h, job, release(bytes), deadline(h, bytes), volume(bytes))
+    if stands { x == absent } else { false }
 }
 
-// The checks of a job's entry. It starts at offset `at` of an input of `total` bytes, and `bytes` are all that follow.
-pub fn check(h: u16, total: usize, job: usize, at: usize, bytes: &[u8]) -> Checked
+// The fields of a job whose entry is whole, read and checked; its map byte stands at offset `at` of the input.
+fn read_fields(h: u16, job: usize, at: usize, bytes: &[u8]) -> Entry
+    requires { ⌜ WholeEntry at (now bytes) ⌝ }
+    ensures { λ e. ⌜ e ≡ entryOf (fieldsCheck h job at (now (bytes .entry))) h (now (bytes .entry)) ⌝ }
+{
+    let map = bytes[0];
+    let has = has_release(map);
+    let first = field(has, 0, bytes, 1);
+    if is_redundant(has, 0, first.value) {
+        return Entry::Refused(Refusal::Redundant(at + 1));
+    }
+    let has = has_deadline(map);
+    let second = field(has, h, bytes, first.next);
+    if is_redundant(has, h, second.value) {
+        return Entry::Refused(Refusal::Redundant(at + first.next));
+    }
+    let has = has_volume(map);
+    let third = field(has, 1, bytes, second.next);
+    if is_redundant(has, 1, third.value) {
+        return Entry::Refused(Refusal::Redundant(at + second.next));
+    }
+    match sched::check_job(h, job, first.value, second.value, third.value) {
+        Checked::Passed => Entry::Read(Fields {
+            release: first.value,
+            deadline: second.value,
+            volume: third.value,
+            size: third.next,
+        }),
+        Checked::Refused(r) => Entry::Refused(r),
+    }
+}
+
+// A job's entry, read and checked. It starts at offset `at` of an input of `total` bytes, and `bytes` are all that follow.
+pub fn read(h: u16, total: usize, job: usize, at: usize, bytes: &[u8]) -> Entry
     requires { ⌜ at + length (now bytes) ≡ total ⌝ }
-    ensures { λ c. ⌜ c ≡ entryCheck h total job at (now (bytes .entry)) ⌝ }
+    ensures { λ e. ⌜ e ≡ entryOf (entryCheck h total job at (now (bytes .entry))) h (now (bytes .entry)) ⌝ }
 {
     if bytes.len() == 0 {
-        return Checked::Refused(Refusal::Truncated(total));
+        return Entry::Refused(Refusal::Truncated(total));
     }
-    let map = byte(bytes, 0);
+    let map = bytes[0];
     if 8 <= map {
-        return Checked::Refused(Refusal::UnknownBit(at));
+        return Entry::Refused(Refusal::UnknownBit(at));
     }
     if bytes.len() < size(map) {
-        return Checked::Refused(Refusal::Truncated(total));
+        return Entry::Refused(Refusal::Truncated(total));
     }
-    check_fields(h, job, at, bytes)
+    read_fields(h, job, at, bytes)
 }

@@ -39,8 +39,10 @@ pub fn read(
     match reader::check(bytes, releases.len(), deadlines.len(), volumes.len()) {
         Checked::Passed => {
             let list = reader::header(bytes);
-            reader::fill(list.h, list.count, bytes, releases, deadlines, volumes);
-            ListRead::Read(list)
+            match reader::fill(list.h, list.count, bytes, releases, deadlines, volumes) {
+                Checked::Passed => ListRead::Read(list),
+                Checked::Refused(r) => ListRead::Refused(r),
+            }
         }
         Checked::Refused(r) => ListRead::Refused(r),
     }

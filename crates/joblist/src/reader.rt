@@ -1,23 +1,26 @@
 // The checks of a list's bytes, and the jobs in them.
 ghost use mathlib.Core.Path.{_≡_};
+ghost use mathlib.Core.List.{_++_};
 ghost use Prim.Native.Nat.{_≤_};
-ghost use lib.ListN.{length, drop};
-ghost use Rattle.sched.specs.declared.Checked.the-variants.{Passed};
-ghost use Rattle.joblist.specs.Bytes.{headerLength, headerHorizon, headerWake, headerCount};
-ghost use Rattle.joblist.specs.Reading.{headerCheck, lentCheck, entriesCheck, readCheck};
-ghost use Rattle.joblist.specs.Helpers.{HeaderOf, Fillable, Filled};
+ghost use lib.ListN.{length, take, drop};
+ghost use Rattle.joblist.specs.Bytes.{headerLength};
+ghost use Rattle.joblist.specs.Reading.{headerCheck, lentCheck};
+ghost use Rattle.joblist.specs.Helpers.{HeaderOf, frontCheck, Fillable, Walked, Filled};
 use super::ListHeader;
 use super::entry;
+use super::entry::Entry;
 use sched::Checked;
 use sched::Refusal;
 
+// The header of bytes that hold one.
 pub fn header(bytes: &[u8]) -> ListHeader
+    requires { ⌜ headerLength ≤ length (now bytes) ⌝ }
     ensures { λ r. ⌜ HeaderOf (now (bytes .entry)) r ⌝ }
 {
     ListHeader {
         h: entry::word(bytes, 0),
         q: entry::word(bytes, 2),
-        count: entry::byte(bytes, 4) as usize,
+        count: bytes[4] as usize,
     }
 }
 
@@ -56,22 +59,45 @@ fn check_lent(count: usize, releases: usize, deadlines: usize, volumes: usize) -
     Checked::Passed
 }
 
-// The entries behind the header, and that nothing follows them.
-fn check_entries(h: u16, count: usize, bytes: &[u8]) -> Checked
-    requires { ⌜ headerLength ≤ length (now bytes) ⌝ }
-    ensures { λ c. ⌜ c ≡ entriesCheck count h (length (now (bytes .entry))) 0 headerLength (drop headerLength (now (bytes .entry))) ⌝ }
+// The checks before the entries, given the lengths of the three lent lists.
+pub fn check(bytes: &[u8], releases: usize, deadlines: usize, volumes: usize) -> Checked
+    ensures { λ c. ⌜ c ≡ frontCheck (now (bytes .entry)) releases deadlines volumes ⌝ }
+{
+    match check_header(bytes) {
+        Checked::Passed => {
+            let list = header(bytes);
+            check_lent(list.count, releases, deadlines, volumes)
+        }
+        Checked::Refused(r) => Checked::Refused(r),
+    }
+}
+
+// The one walk over the entries: each is checked and its fields are put into the three lists, and nothing follows the last.
+fn walk(
+    h: u16,
+    count: usize,
+    bytes: &[u8],
+    releases: &mut [u16],
+    deadlines: &mut [u16],
+    volumes: &mut [u16],
+) -> Checked
+    requires { ⌜ Fillable count (now bytes) (now releases) (now deadlines) (now volumes) ⌝ }
+    ensures { λ c. ⌜ Walked h count (now (bytes .entry)) c (now (releases .exit)) (now (deadlines .exit)) (now (volumes .exit)) ⌝ }
 {
     let total = bytes.len();
     let mut at = 5;
     let mut job = 0;
     while job < count {
         let rest = &bytes[at..];
-        match entry::check(h, total, job, at, rest) {
-            Checked::Passed => {
-                at += entry::size(entry::byte(rest, 0));
+        match entry::read(h, total, job, at, rest) {
+            Entry::Read(f) => {
+                releases[job] = f.release;
+                deadlines[job] = f.deadline;
+                volumes[job] = f.volume;
+                at += f.size;
                 job += 1;
             }
-            Checked::Refused(r) => {
+            Entry::Refused(r) => {
                 return Checked::Refused(r);
             }
         }
@@ -82,23 +108,19 @@ fn check_entries(h: u16, count: usize, bytes: &[u8]) -> Checked
     Checked::Passed
 }
 
-// All checks of the reader, given the lengths of the three lent lists.
-pub fn check(bytes: &[u8], releases: usize, deadlines: usize, volumes: usize) -> Checked
-    ensures { λ c. ⌜ c ≡ readCheck (now (bytes .entry)) releases deadlines volumes ⌝ }
+// The first n entries of one list into another.
+fn copy(n: usize, from: &[u16], to: &mut [u16])
+    requires { ⌜ (n ≤ length (now from)) × (n ≤ length (now to)) ⌝ }
+    ensures { λ _. ⌜ now (to .exit) ≡ take n (now (from .entry)) ++ drop n (now (to .entry)) ⌝ }
 {
-    match check_header(bytes) {
-        Checked::Passed => {
-            let list = header(bytes);
-            match check_lent(list.count, releases, deadlines, volumes) {
-                Checked::Passed => check_entries(list.h, list.count, bytes),
-                Checked::Refused(r) => Checked::Refused(r),
-            }
-        }
-        Checked::Refused(r) => Checked::Refused(r),
+    let mut i = 0;
+    while i < n {
+        to[i] = from[i];
+        i += 1;
     }
 }
 
-// Puts the jobs of a list that passes the checks into the three lists.
+// Reads the entries behind the header into the three lists. They are read to arrays first, so that a refusal leaves the lists as they are.
 pub fn fill(
     h: u16,
     count: usize,
@@ -106,18 +128,20 @@ pub fn fill(
     releases: &mut [u16],
     deadlines: &mut [u16],
     volumes: &mut [u16],
-)
-    requires { ⌜ Fillable h count (now bytes) (now releases) (now deadlines) (now volumes) ⌝ }
-    ensures { λ _. ⌜ Filled h count (now (bytes .entry)) (now (releases .entry)) (now (deadlines .entry)) (now (volumes .entry)) (now (releases .exit)) (now (deadlines .exit)) (now (volumes .exit)) ⌝ }
+) -> Checked
+    requires { ⌜ Fillable count (now bytes) (now releases) (now deadlines) (now volumes) ⌝ }
+    ensures { λ c. ⌜ Filled h count (now (bytes .entry)) (now (releases .entry)) (now (deadlines .entry)) (now (volumes .entry)) c (now (releases .exit)) (now (deadlines .exit)) (now (volumes .exit)) ⌝ }
 {
-    let mut at = 5;
-    let mut job = 0;
-    while job < count {
-        let rest = &bytes[at..];
-        releases[job] = entry::release(rest);
-        deadlines[job] = entry::deadline(h, rest);
-        volumes[job] = entry::volume(rest);
-        at += entry::size(entry::byte(rest, 0));
-        job += 1;
+    let mut first = [0u16; 64];
+    let mut second = [0u16; 64];
+    let mut third = [0u16; 64];
+    match walk(h, count, bytes, &mut first, &mut second, &mut third) {
+        Checked::Passed => {
+            copy(count, &first, releases);
+            copy(count, &second, deadlines);
+            copy(count, &third, volumes);
+            Checked::Passed
+        }
+        Checked::Refused(r) => Checked::Refused(r),
     }
 }

@@ -1,10 +1,10 @@
--- `reader::check` meets its contract: the header, the lent lists and the entries are checked in the order of `readCheck`.
+-- `reader::check` meets its contract: the header and the lent lists are checked in the order of `frontCheck`.
 use borrow.Author.Needs.{needs}
 use Rattle.sched.specs.declared.Checked.the-variants.{Passed}
-use Rattle.joblist.specs.Reading.{headerCheck, lentCheck}
+use Rattle.joblist.specs.Reading.{headerCheck}
 use Rattle.joblist.specs.Laws.Passing.{then-stop, told}
 use Rattle.joblist.specs.Laws.Input.{header-passed}
-use Rattle.joblist.proofs.Promises.{entries-decide, lent-refused}
+use Rattle.joblist.proofs.Promises.{front-lent}
 use Rattle.joblist.proofs.reader.check.Statement.{statement}
 use Rattle.joblist.proofs.reader.check.Tie as tie
 
@@ -15,43 +15,28 @@ enum-told : tie.Need-enum-told
 enum-told c = search needs
 
 header-requires : tie.Need-header-requires
-header-requires c κs = search needs
+header-requires c κs =
+    let b = c .before .before .before .before .args .bytes .now in
+    header-passed b (told (c .before .before .check-header .result) (headerCheck b) Passed (c .before .before .check-header .ensures) (c .enum-told .given .1)) .long
 
 check-lent-requires : tie.Need-check-lent-requires
 check-lent-requires c κs = search needs
 
-enum-told-2 : tie.Need-enum-told-2
-enum-told-2 c = search needs
-
-check-entries-requires : tie.Need-check-entries-requires
-check-entries-requires c κs =
-    let a = c .before .before .before .before .before .before .before .before .args in
-    let b = a .bytes .now in
-    header-passed b (told (c .before .before .before .before .before .before .check-header .result) (headerCheck b) Passed (c .before .before .before .before .before .before .check-header .ensures) (c .before .before .before .before .enum-told .given .1)) .long
-
 enum-known-r : tie.Need-enum-known-r
 enum-known-r c = search needs
 
-enum-known-r-2 : tie.Need-enum-known-r-2
-enum-known-r-2 c = search needs
-
 returns : tie.Need-returns
 returns c =
-    let a = c .before .before .before .before .before .before .before .before .before .args in
+    let a = c .before .before .before .before .before .before .args in
     let b = a .bytes .now in
-    entries-decide b (a .releases) (a .deadlines) (a .volumes) (c .before .before .before .before .header .result) (c .before .before .before .before .header .ensures) (c .check-entries .result) (told (c .before .before .before .before .before .before .before .check-header .result) (headerCheck b) Passed (c .before .before .before .before .before .before .before .check-header .ensures) (c .before .before .before .before .before .enum-told .given .1)) (told (c .before .before .before .check-lent .result) (lentCheck (c .before .before .before .before .header .result .count) (a .releases) (a .deadlines) (a .volumes)) Passed (c .before .before .before .check-lent .ensures) (c .before .enum-told2 .given .1)) (c .check-entries .ensures)
+    let h = c .before .before .before .before .check-header in
+    front-lent b (a .releases) (a .deadlines) (a .volumes) (c .before .header .result) (c .check-lent .result) (c .before .header .ensures) (told (h .result) (headerCheck b) Passed (h .ensures) (c .before .before .enum-told .given .1)) (c .check-lent .ensures)
 
 returns-2 : tie.Need-returns-2
 returns-2 c =
-    let a = c .before .before .before .before .before .before .before .before .before .args in
-    let b = a .bytes .now in
-    lent-refused b (a .releases) (a .deadlines) (a .volumes) (c .before .before .before .before .header .result) (c .before .before .before .before .header .ensures) _ (told (c .before .before .before .before .before .before .before .check-header .result) (headerCheck b) Passed (c .before .before .before .before .before .before .before .check-header .ensures) (c .before .before .before .before .before .enum-told .given .1)) (told (c .before .before .before .check-lent .result) (lentCheck (c .before .before .before .before .header .result .count) (a .releases) (a .deadlines) (a .volumes)) _ (c .before .before .before .check-lent .ensures) (c .before .r .given .1))
-
-returns-3 : tie.Need-returns-3
-returns-3 c =
-    let a = c .before .before .before .before .before .args in
-    let b = a .bytes .now in
-    then-stop (headerCheck b) _ _ (told (c .before .before .before .check-header .result) (headerCheck b) _ (c .before .before .before .check-header .ensures) (c .before .r2 .given .1))
+    let b = c .before .before .before .before .before .args .bytes .now in
+    let h = c .before .before .before .check-header in
+    then-stop (headerCheck b) _ _ (told (h .result) (headerCheck b) _ (h .ensures) (c .before .r .given .1))
 
 pub check-spec : {M : Type 1} → statement M
 check-spec =
@@ -61,10 +46,6 @@ check-spec =
     enum-told
     header-requires
     check-lent-requires
-    enum-told-2
-    check-entries-requires
     enum-known-r
-    enum-known-r-2
     returns
-    returns-2
-    returns-3)
+    returns-2)

@@ -1,148 +1,82 @@
--- `reader::fill` meets its contract. The invariant: what is left to store gives, in each list, what all of it gives.
+-- `reader::fill` meets its contract: the walk decides, and where it passes the three lists are copied.
 use borrow.Author.Needs.{needs}
-use Prim.Native.Nat.{_≤_, _-_}
-use mathlib.Core.Path.{_≡_, refl}
-use native.Mathlib.Omega.{arith}
-use native.Mathlib.Nat.{sub-zero}
-use lib.ListN.{length, take, drop}
-use Rattle.sched.specs.declared.Checked.the-variants.{Passed}
-use Rattle.joblist.specs.Reading.{releaseOf, deadlineOf, volumeOf, entriesCheck}
-use Rattle.joblist.proofs.Walk.{part-rest, passed-here, passed-next, within, Column, column-next, column-end}
-use Rattle.joblist.proofs.Fields.{sized}
+use Rattle.joblist.proofs.Copied.{fill-passed, fill-refused}
 use Rattle.joblist.proofs.reader.fill.Statement.{statement}
 use Rattle.joblist.proofs.reader.fill.Tie as tie
 
-abbrev Inv-loop : tie.InvT-loop
-Inv-loop h count bytes releases₀ deadlines₀ volumes₀ at₀ job₀ releases deadlines volumes at job =
-    (at ≤ length bytes) × (job ≤ count) × (entriesCheck (count - job) h (length bytes) job at (drop at bytes) ≡ Passed)
-    × Column releaseOf bytes releases₀ count job at releases
-    × Column (deadlineOf h) bytes deadlines₀ count job at deadlines
-    × Column volumeOf bytes volumes₀ count job at volumes
+slice-aggregate-walk : tie.Need-slice-aggregate-walk
+slice-aggregate-walk c = search needs
 
-abbrev μ-loop : tie.MeasureT-loop
-μ-loop h count bytes releases₀ deadlines₀ volumes₀ at₀ job₀ releases deadlines volumes at job = count - job
+slice-aggregate-walk-2 : tie.Need-slice-aggregate-walk-2
+slice-aggregate-walk-2 c = search needs
 
-loop-holds : tie.Need-loop-holds Inv-loop μ-loop
-loop-holds c =
-    let p = c .before .before .before .before .pre in
-    let z = sub-zero (c .before .before .before .before .args .count) in
-    (p .long, search needs, rw z (p .passed), record { same = refl; stored = rw z }, record { same = refl; stored = rw z }, record { same = refl; stored = rw z })
+slice-aggregate-walk-3 : tie.Need-slice-aggregate-walk-3
+slice-aggregate-walk-3 c = search needs
 
-sub-rest : tie.Need-sub-rest Inv-loop μ-loop
-sub-rest c = search needs
+walk-requires : tie.Need-walk-requires
+walk-requires c κs = search needs
 
-part-rest-start : tie.Need-part-rest-start Inv-loop μ-loop
-part-rest-start c = search needs
+enum-told : tie.Need-enum-told
+enum-told c = search needs
 
-part-rest-end : tie.Need-part-rest-end Inv-loop μ-loop
-part-rest-end c = search needs
+slice-aggregate-copy : tie.Need-slice-aggregate-copy
+slice-aggregate-copy c = search needs
 
-release-requires : tie.Need-release-requires Inv-loop μ-loop
-release-requires c κs = search needs
+copy-requires : tie.Need-copy-requires
+copy-requires c κs = search needs
 
-mul-releases : tie.Need-mul-releases Inv-loop μ-loop
-mul-releases c = search needs
+slice-aggregate-copy-2 : tie.Need-slice-aggregate-copy-2
+slice-aggregate-copy-2 c = search needs
 
-slice-write-releases : tie.Need-slice-write-releases Inv-loop μ-loop
-slice-write-releases c = search needs
+copy-requires-2 : tie.Need-copy-requires-2
+copy-requires-2 c κs = search needs
 
-deadline-requires : tie.Need-deadline-requires Inv-loop μ-loop
-deadline-requires c κs = search needs
+slice-aggregate-copy-3 : tie.Need-slice-aggregate-copy-3
+slice-aggregate-copy-3 c = search needs
 
-mul-deadlines : tie.Need-mul-deadlines Inv-loop μ-loop
-mul-deadlines c = search needs
+copy-requires-3 : tie.Need-copy-requires-3
+copy-requires-3 c κs = search needs
 
-slice-write-deadlines : tie.Need-slice-write-deadlines Inv-loop μ-loop
-slice-write-deadlines c = search needs
+enum-known-r : tie.Need-enum-known-r
+enum-known-r c = search needs
 
-volume-requires : tie.Need-volume-requires Inv-loop μ-loop
-volume-requires c κs = search needs
+same-length : tie.Need-same-length
+same-length c = search needs
 
-mul-volumes : tie.Need-mul-volumes Inv-loop μ-loop
-mul-volumes c = search needs
+same-length-2 : tie.Need-same-length-2
+same-length-2 c = search needs
 
-slice-write-volumes : tie.Need-slice-write-volumes Inv-loop μ-loop
-slice-write-volumes c = search needs
+same-length-3 : tie.Need-same-length-3
+same-length-3 c = search needs
 
-byte-requires : tie.Need-byte-requires Inv-loop μ-loop
-byte-requires c κs = search needs
-
-size-requires : tie.Need-size-requires Inv-loop μ-loop
-size-requires c κs = search needs
-
-add-at : tie.Need-add-at Inv-loop μ-loop
-add-at c =
-    let a = c .before .before .before .before .before .before .before .before .before .before .before .before .args in
-    let b = a .bytes .now in
-    let l = c .before .before .before .before .before .before .before .loop in
-    let at = l .at in
-    let job = l .job in
-    let t = c .before .before .before .before .before .before .loop-test .taken in
-    let s = sized (take (length b - at) (drop at b)) (c .before .byte .result) (c .size .result) (c .before .byte .ensures) (c .size .ensures) in
-    let w = within (a .h) (length b) b job at (c .size .result) (take (length b - at) (drop at b)) (l .inv .0) (part-rest at b) s (passed-here (a .h) (length b) b (a .count) job at (take (length b - at) (drop at b)) t (part-rest at b) (l .inv .2)) in
-    omega (arith, w)
-
-add-job : tie.Need-add-job Inv-loop μ-loop
-add-job c = search needs
-
-loop-less : tie.Need-loop-less Inv-loop μ-loop
-loop-less c = search needs
-
-loop-again : tie.Need-loop-again Inv-loop μ-loop
-loop-again c =
-    let a = c .before .before .before .before .before .before .before .before .before .before .before .before .args in
-    let b = a .bytes .now in
-    let l = c .before .before .before .before .before .before .before .loop in
-    let at = l .at in
-    let job = l .job in
-    let t = c .before .before .before .before .before .before .loop-test .taken in
-    let s = sized (take (length b - at) (drop at b)) (c .before .byte .result) (c .size .result) (c .before .byte .ensures) (c .size .ensures) in
-    let w = within (a .h) (length b) b job at (c .size .result) (take (length b - at) (drop at b)) (l .inv .0) (part-rest at b) s (passed-here (a .h) (length b) b (a .count) job at (take (length b - at) (drop at b)) t (part-rest at b) (l .inv .2)) in
-    (w, search needs, passed-next (a .h) (length b) b (a .count) job at (c .size .result) (take (length b - at) (drop at b)) t (part-rest at b) s (l .inv .2), column-next releaseOf b (a .releases .now) (l .releases) (a .count) job at (c .size .result) _ (take (length b - at) (drop at b)) t (part-rest at b) s (c .before .before .before .before .release .ensures) (l .inv .3), column-next (deadlineOf (a .h)) b (a .deadlines .now) (l .deadlines) (a .count) job at (c .size .result) _ (take (length b - at) (drop at b)) t (part-rest at b) s (c .before .before .before .deadline .ensures) (l .inv .4), column-next volumeOf b (a .volumes .now) (l .volumes) (a .count) job at (c .size .result) _ (take (length b - at) (drop at b)) t (part-rest at b) s (c .before .before .volume .ensures) (l .inv .5))
-
-same-length : tie.Need-same-length Inv-loop μ-loop
-same-length c = c .before .loop .inv .3 .same
-
-same-length-2 : tie.Need-same-length-2 Inv-loop μ-loop
-same-length-2 c = c .before .loop .inv .4 .same
-
-same-length-3 : tie.Need-same-length-3 Inv-loop μ-loop
-same-length-3 c = c .before .loop .inv .5 .same
-
-returns : tie.Need-returns Inv-loop μ-loop
+returns : tie.Need-returns
 returns c =
-    let a = c .before .before .before .before .before .before .args in
-    let b = a .bytes .now in
-    let l = c .before .loop in
-    let p = c .before .before .before .before .before .before .pre in
-    record { releases = column-end releaseOf b (a .releases .now) (l .releases) (a .count) (l .job) (l .at) (c .loop-test .left) (p .releases) (l .inv .3); deadlines = column-end (deadlineOf (a .h)) b (a .deadlines .now) (l .deadlines) (a .count) (l .job) (l .at) (c .loop-test .left) (p .deadlines) (l .inv .4); volumes = column-end volumeOf b (a .volumes .now) (l .volumes) (a .count) (l .job) (l .at) (c .loop-test .left) (p .volumes) (l .inv .5) }
+    let k = c .before .before .before .before .before .before .before in
+    let j = k .before .before .before .before .before in
+    let m = j .before .before .before in
+    fill-passed (m .before .before .before .before .before .walk .ensures) (m .enum-told .given .1) (j .copy .ensures) (k .copy2 .ensures) (c .before .before .copy3 .ensures)
+
+returns-2 : tie.Need-returns-2
+returns-2 c = fill-refused (c .before .before .before .before .before .before .walk .ensures) _ (c .before .r .given .1)
 
 pub fill-spec : {M : Type 1} → statement M
 fill-spec =
     tie.close
     (tie.spec
-    Inv-loop
-    μ-loop
-    loop-holds
-    sub-rest
-    part-rest-start
-    part-rest-end
-    release-requires
-    mul-releases
-    slice-write-releases
-    deadline-requires
-    mul-deadlines
-    slice-write-deadlines
-    volume-requires
-    mul-volumes
-    slice-write-volumes
-    byte-requires
-    size-requires
-    add-at
-    add-job
-    loop-less
-    loop-again
+    slice-aggregate-walk
+    slice-aggregate-walk-2
+    slice-aggregate-walk-3
+    walk-requires
+    enum-told
+    slice-aggregate-copy
+    copy-requires
+    slice-aggregate-copy-2
+    copy-requires-2
+    slice-aggregate-copy-3
+    copy-requires-3
+    enum-known-r
     same-length
     same-length-2
     same-length-3
-    returns)
+    returns
+    returns-2)

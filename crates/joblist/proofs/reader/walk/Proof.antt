@@ -1,0 +1,154 @@
+-- `reader::walk` meets its contract. The invariant: what is left of the checks and of the stores gives what all of them give.
+use borrow.Author.Needs.{needs}
+use Prim.Native.Nat.{_-_}
+use native.Mathlib.Omega.{arith}
+use lib.ListN.{length, take, drop}
+use Rattle.joblist.proofs.Walk.{part-rest, part-length, WalkedTo, walk-start, walk-inside, walk-next, walk-stop, walk-left-over, walk-end}
+use Rattle.joblist.proofs.reader.walk.Statement.{statement}
+use Rattle.joblist.proofs.reader.walk.Tie as tie
+
+abbrev Inv-loop : tie.InvT-loop
+Inv-loop h count bytes releases₀ deadlines₀ volumes₀ total at₀ job₀ releases deadlines volumes at job =
+    WalkedTo h count bytes releases₀ deadlines₀ volumes₀ at job releases deadlines volumes
+
+abbrev μ-loop : tie.MeasureT-loop
+μ-loop h count bytes releases₀ deadlines₀ volumes₀ total at₀ job₀ releases deadlines volumes at job =
+    count - job
+
+loop-holds : tie.Need-loop-holds Inv-loop μ-loop
+loop-holds c = walk-start (c .before .before .before .before .pre)
+
+sub-rest : tie.Need-sub-rest Inv-loop μ-loop
+sub-rest c = search needs
+
+part-rest-start : tie.Need-part-rest-start Inv-loop μ-loop
+part-rest-start c = search needs
+
+part-rest-end : tie.Need-part-rest-end Inv-loop μ-loop
+part-rest-end c = search needs
+
+read-requires : tie.Need-read-requires Inv-loop μ-loop
+read-requires c κs = let l = c .before .before .loop in part-length (l .at) (c .before .before .before .before .before .before .before .args .bytes .now) (l .inv .inside)
+
+enum-known-f : tie.Need-enum-known-f Inv-loop μ-loop
+enum-known-f c = search needs
+
+mul-releases : tie.Need-mul-releases Inv-loop μ-loop
+mul-releases c = search needs
+
+slice-write-releases : tie.Need-slice-write-releases Inv-loop μ-loop
+slice-write-releases c = search needs
+
+mul-deadlines : tie.Need-mul-deadlines Inv-loop μ-loop
+mul-deadlines c = search needs
+
+slice-write-deadlines : tie.Need-slice-write-deadlines Inv-loop μ-loop
+slice-write-deadlines c = search needs
+
+mul-volumes : tie.Need-mul-volumes Inv-loop μ-loop
+mul-volumes c = search needs
+
+slice-write-volumes : tie.Need-slice-write-volumes Inv-loop μ-loop
+slice-write-volumes c = search needs
+
+add-at : tie.Need-add-at Inv-loop μ-loop
+add-at c =
+    let k = c .before .before .before .before .read in
+    let t = c .before .before .before .before .before .before in
+    let l = t .before .loop in
+    let b = t .before .before .before .before .before .before .args .bytes .now in
+    omega (arith, walk-inside (l .inv) (t .loop-test .taken) (part-rest (l .at) b) (k .ensures) (c .before .before .f .given .0 .0) (c .before .before .f .given .1))
+
+add-job : tie.Need-add-job Inv-loop μ-loop
+add-job c = search needs
+
+loop-less : tie.Need-loop-less Inv-loop μ-loop
+loop-less c = search needs
+
+loop-again : tie.Need-loop-again Inv-loop μ-loop
+loop-again c =
+    let k = c .before .before .before .before .read in
+    let t = c .before .before .before .before .before .before in
+    let l = t .before .loop in
+    let b = t .before .before .before .before .before .before .args .bytes .now in
+    walk-next (l .inv) (t .loop-test .taken) (part-rest (l .at) b) (k .ensures) (c .before .before .f .given .0 .0) (c .before .before .f .given .1)
+
+enum-known-r : tie.Need-enum-known-r Inv-loop μ-loop
+enum-known-r c = search needs
+
+same-length : tie.Need-same-length Inv-loop μ-loop
+same-length c = c .before .before .before .before .before .before .loop .inv .releases .same
+
+same-length-2 : tie.Need-same-length-2 Inv-loop μ-loop
+same-length-2 c = c .before .before .before .before .before .before .loop .inv .deadlines .same
+
+same-length-3 : tie.Need-same-length-3 Inv-loop μ-loop
+same-length-3 c = c .before .before .before .before .before .before .loop .inv .volumes .same
+
+returns : tie.Need-returns Inv-loop μ-loop
+returns c =
+    let k = c .before .before .before .read in
+    let t = c .before .before .before .before .before in
+    let l = t .before .loop in
+    let b = t .before .before .before .before .before .before .args .bytes .now in
+    walk-stop (l .inv) (t .loop-test .taken) (part-rest (l .at) b) (k .ensures) (c .before .r .given .0 .0) (c .before .r .given .1)
+
+same-length-4 : tie.Need-same-length-4 Inv-loop μ-loop
+same-length-4 c = c .before .before .loop .inv .releases .same
+
+same-length-5 : tie.Need-same-length-5 Inv-loop μ-loop
+same-length-5 c = c .before .before .loop .inv .deadlines .same
+
+same-length-6 : tie.Need-same-length-6 Inv-loop μ-loop
+same-length-6 c = c .before .before .loop .inv .volumes .same
+
+returns-2 : tie.Need-returns-2 Inv-loop μ-loop
+returns-2 c = walk-left-over (c .before .before .loop .inv) (c .before .loop-test .left) (c .if1 .taken)
+
+same-length-7 : tie.Need-same-length-7 Inv-loop μ-loop
+same-length-7 c = c .before .before .loop .inv .releases .same
+
+same-length-8 : tie.Need-same-length-8 Inv-loop μ-loop
+same-length-8 c = c .before .before .loop .inv .deadlines .same
+
+same-length-9 : tie.Need-same-length-9 Inv-loop μ-loop
+same-length-9 c = c .before .before .loop .inv .volumes .same
+
+returns-3 : tie.Need-returns-3 Inv-loop μ-loop
+returns-3 c = walk-end (c .before .before .loop .inv) (c .before .before .before .before .before .before .before .pre) (c .before .loop-test .left) (c .if1 .left)
+
+pub walk-spec : {M : Type 1} → statement M
+walk-spec =
+    tie.close
+    (tie.spec
+    Inv-loop
+    μ-loop
+    loop-holds
+    sub-rest
+    part-rest-start
+    part-rest-end
+    read-requires
+    enum-known-f
+    mul-releases
+    slice-write-releases
+    mul-deadlines
+    slice-write-deadlines
+    mul-volumes
+    slice-write-volumes
+    add-at
+    add-job
+    loop-less
+    loop-again
+    enum-known-r
+    same-length
+    same-length-2
+    same-length-3
+    returns
+    same-length-4
+    same-length-5
+    same-length-6
+    returns-2
+    same-length-7
+    same-length-8
+    same-length-9
+    returns-3)
