@@ -6,7 +6,7 @@ use mathlib.Core.Path.{_≡_, refl, sym, _∙_}
 use mathlib.Core.Bool.{Bool, true, false}
 use mathlib.Core.List.{List}
 use mathlib.Core.Logic.{_⊎_, _↔_}
-use mathlib.Core.Option.{some}
+use mathlib.Core.Option.{Option, some}
 use native.Mathlib.Omega.{arith}
 use lib.ListN.{length, replicate, length-replicate, getD-replicate}
 use Rattle.sched.specs.Bounded.Laws.{by-bool, true-not-false}
@@ -32,8 +32,8 @@ use Rattle.edf.specs.Overload.Counting.{feasible-no-overload}
 use Rattle.edf.specs.Overload.Laws.{shown-some}
 use Rattle.edf.specs.Overload.Ends.{shown-deadline, shown-release}
 use Rattle.edf.specs.Overload.Order.{InOrder}
-use Rattle.edf.specs.Overload.Search.{searchOverload}
-use Rattle.edf.specs.Overload.Search.Laws.{search-shown}
+use Rattle.edf.specs.Overload.Search.{Ending}
+use Rattle.edf.specs.Overload.Search.Laws.{ending-shown}
 
 -- The workable volume
 
@@ -133,6 +133,8 @@ pub shown-ends : (J : Jobs) (i : Interval) → Passes J → shownOverload J ≡ 
     ((k : ℕ) × (k < count J) × (release J k ≡ i .a)) × ((k : ℕ) × (k < count J) × (deadline J k ≡ i .b))
 shown-ends J i p e = let s = shown-some J i e in (shown-release J p i s, shown-deadline J p i s)
 
--- So a search over releases and deadlines finds it, with the jobs in any order by falling release.
-pub search-finds-shown : (J : Jobs) (order : List ℕ) → Passes J → InOrder (release J) (count J) order → searchOverload J order ≡ shownOverload J
-search-finds-shown J order p o = search-shown J p order o
+-- So a search over releases and deadlines finds it, with the jobs in any order by falling release: it is the least deadline for which the volumes, added
+-- up in this order, exceed the slots from some release on, and the first such release.
+pub search-finds-shown :
+    (J : Jobs) (order : List ℕ) (found : Option Interval) → Passes J → InOrder (release J) (count J) order → Ending J order found → found ≡ shownOverload J
+search-finds-shown J order found p o e = ending-shown J p order o found e

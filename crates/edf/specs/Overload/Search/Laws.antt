@@ -1,16 +1,14 @@
--- The search finds the interval that 01 shows.
-use Prim.Native.Nat.{ℕ, zero, suc, _+_, _-_, _≤_, _<_}
-use mathlib.Core.Path.{_≡_, refl, ap}
+-- The least deadline with a start, and the start, are the interval that 01 shows.
+use Prim.Native.Nat.{ℕ, suc, _+_, _-_, _≤_, _<_}
+use mathlib.Core.Path.{_≡_, refl, subst}
 use mathlib.Core.Bool.{Bool, true, false}
 use mathlib.Core.List.{List, [], _∷_, map}
-use mathlib.Core.Logic.{_⊎_, inl, inr}
 use mathlib.Core.Option.{Option, none, some}
 use native.Mathlib.Omega.{arith}
 use native.Mathlib.Decide.{decLe, decLt}
 use borrow.Author.Tests.{ltb-true, ltb-false, leb-true, leb-false}
 use lib.Dec.{leb, ltb}
 use Rattle.sched.specs.Bounded.{total}
-use Rattle.sched.specs.Bounded.Laws.{lt-suc}
 use Rattle.sched.specs.Jobs.{Jobs, count, release, deadline, volume}
 use Rattle.sched.specs.Checks.{Passes}
 use Rattle.sched.specs.Overload.{volumeIf, volumeInside, shownOverload}
@@ -19,7 +17,7 @@ use Rattle.edf.specs.Overload.{Overfull, Shows}
 use Rattle.edf.specs.Overload.Laws.{shows, shows-one}
 use Rattle.edf.specs.Overload.Ends.{volume-inside, volume-early, volume-late, to-deadline}
 use Rattle.edf.specs.Overload.Order.{AtMost, InOrder}
-use Rattle.edf.specs.Overload.Search.{startFor, withEnd, tryEnd, searchFrom, searchOverload, Visited, Starts, ShowsBelow}
+use Rattle.edf.specs.Overload.Search.{startFor, Visited, Starts, Ending}
 
 -- jobs released before a have no volume inside
 all-early : (J : Jobs) (a b v : ℕ) (rest : List ℕ) → v < a → AtMost (release J) v rest → total (map (volumeIf J a b) rest) ≡ 0
@@ -116,56 +114,25 @@ module _ (J : Jobs) (p : Passes J) (order : List ℕ) (by-release : InOrder (rel
         inside = λ a l. omega (arith, by-release .once (volumeIf J a b));
       })
 
-  -- a look at the end of one more job
-  try-right : (j : ℕ) → j < count J → (found : Option Interval) → ShowsBelow J j found → ShowsBelow J (suc j) (tryEnd J order (deadline J j) found)
-  unfolding tryEnd
-  try-right j l none s = go (startFor J (deadline J j) order 0) (start-for (deadline J j) (p .good j l .within))
-    where
-      go : (o : Option ℕ) → Starts J (deadline J j) o → ShowsBelow J (suc j) (withEnd (deadline J j) o none)
-      go none r = λ k m a o. here k a o (lt-suc m)
-        where
-          here : (k a : ℕ) → Overfull J a (deadline J k) → (k < j) ⊎ (k ≡ j) → ⊥
-          here k a o (inl m) = s k m a o
-          here k a o (inr e) = r a (rw (ap (deadline J) e) at o)
-      go (some x) r = (r, λ k m a o. here k a o (lt-suc m))
-        where
-          here : (k a : ℕ) → Overfull J a (deadline J k) → (k < j) ⊎ (k ≡ j) → deadline J j ≤ deadline J k
-          here k a o (inl m) = absurd (s k m a o)
-          here k a o (inr e) = omega (arith, ap (deadline J) e)
-  try-right j l (some i) s = go (ltb (deadline J j) (i .b)) refl (startFor J (deadline J j) order 0) (start-for (deadline J j) (p .good j l .within))
-    where
-      stays : ((a : ℕ) → Overfull J a (deadline J j) → i .b ≤ deadline J j) → ShowsBelow J (suc j) (some i)
-      stays r = (s .0, λ k m a o. here k a o (lt-suc m))
-        where
-          here : (k a : ℕ) → Overfull J a (deadline J k) → (k < j) ⊎ (k ≡ j) → i .b ≤ deadline J k
-          here k a o (inl m) = s .1 k m a o
-          here k a o (inr e) = omega (arith, ap (deadline J) e, r a (rw (ap (deadline J) e) at o))
-
-      go : (t : Bool) → ltb (deadline J j) (i .b) ≡ t → (o : Option ℕ) → Starts J (deadline J j) o → ShowsBelow J (suc j) (elim t [ true ↦ withEnd (deadline J j) o (some i) | false ↦ some i ])
-      go false e o r = stays (λ a x. ltb-false (deadline J j) (i .b) e)
-      go true e none r = stays (λ a x. absurd (r a x))
-      go true e (some x) r = (r, λ k m a o. here k a o (lt-suc m))
-        where
-          here : (k a : ℕ) → Overfull J a (deadline J k) → (k < j) ⊎ (k ≡ j) → deadline J j ≤ deadline J k
-          here k a o (inl m) = omega (arith, s .1 k m a o, ltb-true (deadline J j) (i .b) e)
-          here k a o (inr q) = omega (arith, ap (deadline J) q)
-
-  from-right : (k j : ℕ) (found : Option Interval) → j + k ≡ count J → ShowsBelow J j found → ShowsBelow J (count J) (searchFrom J order k j found)
-  unfolding searchFrom
-  from-right zero j found e s = let q : j ≡ count J = omega arith in rw q at s
-  from-right (suc k) j found e s = from-right k (suc j) (tryEnd J order (deadline J j) found) (omega arith) (try-right j (omega arith) found s)
+  -- an end without a start has no overfull interval
+  no-start : (b : ℕ) → b ≤ J .horizon → startFor J b order 0 ≡ none → (a : ℕ) → Overfull J a b → ⊥
+  no-start b within e = subst (Starts J b) e (start-for b within)
 
   -- the ends of all jobs are all that matter
-  all-shows : (o : Option Interval) → ShowsBelow J (count J) o → Shows J o
-  all-shows none s = λ a b o. let r = to-deadline J p a b o in s (r .0) (r .1) a (r .3)
-  all-shows (some i) s =
-      record {
-        over = s .0 .0;
-        least = λ a b o. let r = to-deadline J p a b o in omega (arith, r .2, s .1 (r .0) (r .1) a (r .3));
-        greatest = s .0 .1;
-      }
+  ending-shows : (o : Option Interval) → Ending J order o → Shows J o
+  ending-shows none s = λ a b o.
+      let r = to-deadline J p a b o in
+      no-start (deadline J (r .0)) (p .good (r .0) (r .1) .within) (s (r .0) (r .1)) a (r .3)
+  ending-shows (some i) s =
+      let starts : Starts J (i .b) (some (i .a)) = subst (Starts J (i .b)) (s .start) (start-for (i .b) (s .within)) in
+      record { over = starts .0; least = λ a b o. least a b (to-deadline J p a b o); greatest = starts .1 }
+    where
+      least : (a b : ℕ) → ((k : ℕ) × (k < count J) × (deadline J k ≤ b) × Overfull J a (deadline J k)) → i .b ≤ b
+      least a b (k, l, m, o) = go (decLt (deadline J k) (i .b))
+        where
+          go : Dec (deadline J k < i .b) → i .b ≤ b
+          go (yes n) = absurd (no-start (deadline J k) (p .good k l .within) (s .least k l n) a o)
+          go (no n) = omega arith
 
-  pub search-shown : searchOverload J order ≡ shownOverload J
-  search-shown =
-      shows-one J (searchOverload J order) (shownOverload J)
-      (all-shows (searchOverload J order) (from-right (count J) 0 none (omega arith) (λ k l a o. omega arith))) (shows J)
+  pub ending-shown : (o : Option Interval) → Ending J order o → o ≡ shownOverload J
+  ending-shown o s = shows-one J o (shownOverload J) (ending-shows o s) (shows J)

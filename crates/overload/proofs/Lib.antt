@@ -1,0 +1,5 @@
+pub mod Filling
+pub mod Adding
+pub mod Visiting
+pub mod Searching
+pub mod Showing
