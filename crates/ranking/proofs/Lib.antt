@@ -1,3 +1,4 @@
 pub mod Marking
 pub mod Counting
 pub mod Sorting
+pub mod Climbing
