@@ -5,7 +5,7 @@ use mathlib.Core.List.{List}
 use native.Mathlib.Nat.{zero-add}
 use native.Mathlib.Omega.{arith}
 use borrow.Author.Tests.{lt-ltb, le-ltb}
-use lib.ListN.{length, drop}
+use lib.ListN.{length}
 use lib.Dec.{ltb}
 use lib.Seq.{sets, sets-eq}
 use Rattle.sched.specs.Jobs.{Jobs}
@@ -58,7 +58,8 @@ module _ (bytes rs ds ps : List ℕ) (front : Checked) (a : front ≡ frontCheck
 
   pub front-refused : (r : Refusal) → front ≡ Faulty r → ReadPromise bytes rs ds ps (Refused r) rs ds ps
   front-refused r e =
-      let q = then-then (headerCheck bytes) lent entries ∙ sym (then-stop (andThen (headerCheck bytes) lent) entries r (told front (andThen (headerCheck bytes) lent) (Faulty r) a e)) in
+      let f = told front (andThen (headerCheck bytes) lent) (Faulty r) a e in
+      let q = then-then (headerCheck bytes) lent entries ∙ sym (then-stop (andThen (headerCheck bytes) lent) entries r f) in
       promised (afterRead (Faulty r) bytes rs ds ps) rs ds ps (Refused r) (reading-refused bytes rs ds ps r q) refl refl refl refl
 
   module _ (passed : front ≡ Passed) where
@@ -84,7 +85,8 @@ module _ (bytes rs ds ps : List ℕ) (front : Checked) (a : front ≡ frontCheck
       -- the checks of the entries decide
       entries-decide : (c : Checked) → c ≡ behindHeader (list .h) (list .count) bytes → readCheck bytes (length rs) (length ds) (length ps) ≡ c
       entries-decide c e =
-          sym (then-next (headerCheck bytes) (andThen lent entries) c (front-passed .0) (then-next lent entries c (front-passed .1) (rw (o .count, o .h) at e)))
+          sym (then-next (headerCheck bytes) (andThen lent entries) c (front-passed .0)
+          (then-next lent entries c (front-passed .1) (rw (o .count, o .h) at e)))
 
       module _ (rs′ ds′ ps′ : List ℕ) (c : Checked) (f : Filled (list .h) (list .count) bytes rs ds ps c rs′ ds′ ps′) where
         pub read-accepted : c ≡ Passed → ReadPromise bytes rs ds ps (Read list) rs′ ds′ ps′
@@ -95,7 +97,8 @@ module _ (bytes rs ds ps : List ℕ) (front : Checked) (a : front ≡ frontCheck
 
         pub read-refused : (r : Refusal) → c ≡ Faulty r → ReadPromise bytes rs ds ps (Refused r) rs′ ds′ ps′
         read-refused r e =
-            promised (afterRead (Faulty r) bytes rs ds ps) rs′ ds′ ps′ (Refused r) (reading-refused bytes rs ds ps r (entries-decide c (f .told) ∙ e)) refl
+            promised (afterRead (Faulty r) bytes rs ds ps) rs′ ds′ ps′ (Refused r)
+            (reading-refused bytes rs ds ps r (entries-decide c (f .told) ∙ e)) refl
             (rw e at (f .releases)) (rw e at (f .deadlines)) (rw e at (f .volumes))
 
 pub equal-lists : (J : Jobs) (c : Checked) → c ≡ checkOf J → c ≡ Passed → EqualLists (J .releases) (J .deadlines) (J .volumes)

@@ -1,16 +1,16 @@
 -- The bytes of a list, stored one part after the other.
-use Prim.Native.Nat.{ℕ, zero, suc, _+_, _-_, _≤_, _<_, _%_, _/_}
+use Prim.Native.Nat.{ℕ, suc, _+_, _-_, _≤_, _<_, _%_, _/_}
 use mathlib.Core.Path.{_≡_, refl, ap, _∙_, sym}
 use mathlib.Core.Bool.{Bool, true, false}
-use mathlib.Core.List.{List, [], _∷_, _++_, append-assoc}
-use native.Mathlib.Nat.{add-zero, suc-add, add-suc, zero-add}
+use mathlib.Core.List.{List, [], _∷_, _++_}
+use native.Mathlib.Nat.{add-zero, suc-add, add-suc}
 use native.Mathlib.Numerals.{add-one}
 use native.Mathlib.Omega.{arith}
 use borrow.Author.Tests.{eq-eqb, ne-eqb}
 use lib.ListN.{length, getD, drop, set, length-append, drop-of-length-le}
-use lib.Seq.{drop-cons, sets, length-sets, sets-eq}
+use lib.Seq.{drop-cons, sets, length-sets}
 use Rattle.sched.specs.Jobs.{Jobs}
-use Rattle.joblist.specs.Bytes.{headerLength, spelled, absentRelease, absentDeadline, absentVolume, stands, bit, mapByte, bytesIf, entryBytes, entriesBytes, header, spelling}
+use Rattle.joblist.specs.Bytes.{headerLength, absentRelease, absentDeadline, absentVolume, stands, bit, mapByte, bytesIf, entryBytes, entriesBytes, header, spelling}
 use Rattle.joblist.specs.Helpers.{EqualLists, PutAt}
 
 -- Lengths

@@ -22,7 +22,8 @@ fill-requires c κs =
     let e = c .before .before .before .before in
     let k = e .before .before .check in
     let a = e .before .before .before .before .before .before .before .args in
-    fillable (a .bytes .now) (a .releases .now) (a .deadlines .now) (a .volumes .now) (k .result) (k .ensures) (e .enum-told .given .1) (o .result) (o .ensures)
+    fillable (a .bytes .now) (a .releases .now) (a .deadlines .now) (a .volumes .now) (k .result) (k .ensures)
+    (e .enum-told .given .1) (o .result) (o .ensures)
 
 enum-told-2 : tie.Need-enum-told-2
 enum-told-2 c = search needs
@@ -49,7 +50,8 @@ returns c =
     let e = c .before .before .before .before .before .before .before .before .before .before .before .before .before in
     let k = e .before .before .check in
     let a = e .before .before .before .before .before .before .before .args in
-    read-accepted (a .bytes .now) (a .releases .now) (a .deadlines .now) (a .volumes .now) (k .result) (k .ensures) (e .enum-told .given .1) (o .result) (o .ensures) _ _ _ (f .result) (f .ensures) (c .enum-told2 .given .1)
+    read-accepted (a .bytes .now) (a .releases .now) (a .deadlines .now) (a .volumes .now) (k .result) (k .ensures)
+    (e .enum-told .given .1) (o .result) (o .ensures) _ _ _ (f .result) (f .ensures) (c .enum-told2 .given .1)
 
 same-length-4 : tie.Need-same-length-4
 same-length-4 c = search needs
@@ -67,7 +69,8 @@ returns-2 c =
     let e = c .before .before .before .before .before .before .before .before .before .before .before .before .before .before in
     let k = e .before .before .check in
     let a = e .before .before .before .before .before .before .before .args in
-    read-refused (a .bytes .now) (a .releases .now) (a .deadlines .now) (a .volumes .now) (k .result) (k .ensures) (e .enum-told .given .1) (o .result) (o .ensures) _ _ _ (f .result) (f .ensures) _ (c .before .r .given .1)
+    read-refused (a .bytes .now) (a .releases .now) (a .deadlines .now) (a .volumes .now) (k .result) (k .ensures)
+    (e .enum-told .given .1) (o .result) (o .ensures) _ _ _ (f .result) (f .ensures) _ (c .before .r .given .1)
 
 returns-3 : tie.Need-returns-3
 returns-3 c =

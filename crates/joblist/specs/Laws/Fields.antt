@@ -1,13 +1,13 @@
 -- Fields and map bytes, written and read back, and read and written again.
 use Prim.Native.Nat.{ℕ, zero, suc, _+_, _*_, _/_, _%_, _≤_, _<_}
-use mathlib.Core.Path.{_≡_, refl, ap, sym, _∙_}
+use mathlib.Core.Path.{_≡_, refl, ap, sym}
 use mathlib.Core.Bool.{Bool, true, false, not}
 use mathlib.Core.List.{List, [], _∷_, _++_}
 use native.Mathlib.Omega.{arith}
 use borrow.Author.Tests.{eq-eqb, eqb-true}
 use lib.ListN.{length, getD, drop}
 use lib.Dec.{eqb}
-use Rattle.joblist.specs.Bytes.{spelled, word, hasRelease, hasDeadline, hasVolume, mapByte, width, deadlineAt, volumeAt, entryLength, stands, bytesIf}
+use Rattle.joblist.specs.Bytes.{spelled, hasRelease, hasDeadline, hasVolume, mapByte, width, deadlineAt, volumeAt, entryLength, stands, bytesIf}
 use Rattle.joblist.specs.Reading.{valueIf, redundant}
 
 -- each entry of a list of bytes is below 256

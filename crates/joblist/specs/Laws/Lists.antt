@@ -1,5 +1,5 @@
 -- A whole list, header and entries, written and read back, and read and written again.
-use Prim.Native.Nat.{ℕ, suc, _+_, _*_, _≤_, _<_}
+use Prim.Native.Nat.{ℕ, _+_, _*_, _≤_}
 use mathlib.Core.Path.{_≡_, refl, ap, sym, _∙_}
 use mathlib.Core.List.{List, [], _∷_, _++_}
 use native.Mathlib.Omega.{arith}
@@ -9,7 +9,7 @@ use Rattle.sched.specs.Checks.{Passes}
 use Rattle.joblist.specs.Bytes.{headerLength, headerHorizon, headerWake, headerCount, spelled, entriesBytes, spelling}
 use Rattle.joblist.specs.Reading.{releaseOf, deadlineOf, volumeOf, column, listOf}
 use Rattle.joblist.specs.Laws.Column.{column-length}
-use Rattle.joblist.specs.Laws.Input.{GoodHeader, Room, GoodInput}
+use Rattle.joblist.specs.Laws.Input.{Room, GoodInput}
 use Rattle.joblist.specs.Laws.Fields.{AreBytes, word-spelled, spelled-word}
 use Rattle.joblist.specs.Laws.RoundTrip.{are-bytes-drop, EntriesBack, entries-back, EntriesAgain, entries-again}
 

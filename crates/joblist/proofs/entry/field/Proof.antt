@@ -1,6 +1,6 @@
 -- `entry::field` meets its contract.
 use borrow.Author.Needs.{needs}
-use mathlib.Core.Path.{refl, ap}
+use mathlib.Core.Path.{ap}
 use native.Mathlib.Omega.{arith}
 use Rattle.joblist.specs.Bytes.{width}
 use Rattle.joblist.proofs.Fields.{stands-at, absent-at}
@@ -14,7 +14,9 @@ add-t8 : tie.Need-add-t8
 add-t8 c = search needs
 
 returns : tie.Need-returns
-returns c = let a = c .before .before .before .args in stands-at (a .stands) (a .absent) (c .word .result) (a .at) (a .bytes .now) (c .before .if1 .taken) (c .word .ensures)
+returns c =
+    let a = c .before .before .before .args in
+    stands-at (a .stands) (a .absent) (c .word .result) (a .at) (a .bytes .now) (c .before .if1 .taken) (c .word .ensures)
 
 returns-2 : tie.Need-returns-2
 returns-2 c = let a = c .before .before .args in absent-at (a .stands) (a .absent) (a .at) (a .bytes .now) (c .if1 .left)

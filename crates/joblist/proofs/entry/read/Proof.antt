@@ -23,7 +23,8 @@ returns-3 : tie.Need-returns-3
 returns-3 c =
     let d = c .before .before in
     let a = d .before .before .before .before .args in
-    field-missing (a .h) (a .total) (a .job) (a .at) (a .bytes .now) (c .before .size .result) (c .before .size .ensures) (d .before .before .if1 .left) (d .if2 .left) (c .if3 .taken)
+    field-missing (a .h) (a .total) (a .job) (a .at) (a .bytes .now) (c .before .size .result) (c .before .size .ensures)
+    (d .before .before .if1 .left) (d .if2 .left) (c .if3 .taken)
 
 read-fields-requires : tie.Need-read-fields-requires
 read-fields-requires c κs = record { whole = omega (arith, c .before .size .ensures, c .if3 .left); fits = search needs }
@@ -33,7 +34,8 @@ returns-4 c =
     let s = c .before .before .size in
     let d = c .before .before .before in
     let a = d .before .before .before .before .args in
-    fields-decide (a .h) (a .total) (a .job) (a .at) (a .bytes .now) (s .result) (c .read-fields .result) (s .ensures) (d .before .before .if1 .left) (d .if2 .left) (c .before .if3 .left) (c .read-fields .ensures)
+    fields-decide (a .h) (a .total) (a .job) (a .at) (a .bytes .now) (s .result) (c .read-fields .result) (s .ensures)
+    (d .before .before .if1 .left) (d .if2 .left) (c .before .if3 .left) (c .read-fields .ensures)
 
 pub read-spec : {M : Type 1} → statement M
 read-spec =

@@ -3,24 +3,26 @@ use borrow.Author.Needs.{needs}
 use mathlib.Core.Path.{refl, ap}
 use mathlib.Core.Bool.{false}
 use native.Mathlib.Omega.{arith}
-use Rattle.joblist.specs.Bytes.{width, absentRelease, absentDeadline, absentVolume, hasRelease, hasDeadline, hasVolume, releaseAt, deadlineAt, volumeAt}
-use Rattle.joblist.specs.Reading.{mapOf}
+use Rattle.joblist.specs.Bytes.{width}
 use Rattle.joblist.proofs.Fields.{First, Second, Third, field-read, release-refused, deadline-refused, volume-refused, job-refused, job-read}
 use Rattle.joblist.proofs.entry.read_fields.Statement.{statement}
 use Rattle.joblist.proofs.entry.read_fields.Tie as tie
 
 -- the fields as they were read, each behind the test that it passed
 first : (c : tie.Else1) → First (c .before .before .before .before .before .before .args .bytes .now) (c .before .before .field .result) false
-first c = let b = c .before .before .before .before .before .before .args .bytes .now in field-read (hasRelease (mapOf b)) releaseAt absentRelease b (c .before .before .before .has-release .ensures) refl (c .before .before .field .ensures) (c .before .is-redundant .ensures) (c .if1 .left)
+first c =
+    field-read (c .before .before .before .has-release .ensures) refl
+    (c .before .before .field .ensures) (c .before .is-redundant .ensures) (c .if1 .left)
 
 second : (c : tie.Else2) → Second (c .before .before .before .before .before .before .before .before .before .before .args .h) (c .before .before .before .before .before .before .before .before .before .before .args .bytes .now) (c .before .before .field2 .result) false
 second c =
-    let h = c .before .before .before .before .before .before .before .before .before .before .args .h in
-    let b = c .before .before .before .before .before .before .before .before .before .before .args .bytes .now in
-    field-read (hasDeadline (mapOf b)) (deadlineAt (mapOf b)) (absentDeadline h) b (c .before .before .before .has-deadline .ensures) (first (c .before .before .before .before) .next) (c .before .before .field2 .ensures) (c .before .is-redundant2 .ensures) (c .if2 .left)
+    field-read (c .before .before .before .has-deadline .ensures) (first (c .before .before .before .before) .next)
+    (c .before .before .field2 .ensures) (c .before .is-redundant2 .ensures) (c .if2 .left)
 
 third : (c : tie.Else3) → Third (c .before .before .before .before .before .before .before .before .before .before .before .before .before .before .args .bytes .now) (c .before .before .field3 .result) false
-third c = let b = c .before .before .before .before .before .before .before .before .before .before .before .before .before .before .args .bytes .now in field-read (hasVolume (mapOf b)) (volumeAt (mapOf b)) absentVolume b (c .before .before .before .has-volume .ensures) (second (c .before .before .before .before) .next) (c .before .before .field3 .ensures) (c .before .is-redundant3 .ensures) (c .if3 .left)
+third c =
+    field-read (c .before .before .before .has-volume .ensures) (second (c .before .before .before .before) .next)
+    (c .before .before .field3 .ensures) (c .before .is-redundant3 .ensures) (c .if3 .left)
 
 shared-slice-read-map : tie.Need-shared-slice-read-map
 shared-slice-read-map c = search needs
@@ -39,53 +41,52 @@ add-t16 c = search needs
 
 returns : tie.Need-returns
 returns c =
-    let s = c .before .before .before .before .before .before in
-    let a = s .args in
-    let b = a .bytes .now in
-    release-refused (a .h) (a .job) (a .at) b (field-read (hasRelease (mapOf b)) releaseAt absentRelease b (c .before .before .before .has-release .ensures) refl (c .before .before .field .ensures) (c .before .is-redundant .ensures) (c .if1 .taken))
+    let a = c .before .before .before .before .before .before .args in
+    release-refused (a .h) (a .job) (a .at) (a .bytes .now)
+    (field-read (c .before .before .before .has-release .ensures) refl
+    (c .before .before .field .ensures) (c .before .is-redundant .ensures) (c .if1 .taken))
 
 has-deadline-requires : tie.Need-has-deadline-requires
 has-deadline-requires c κs = search needs
 
 field-requires-2 : tie.Need-field-requires-2
-field-requires-2 c κs = omega (arith, c .before .before .before .before .before .before .before .pre .whole, first (c .before) .next, ap width (c .has-deadline .ensures))
+field-requires-2 c κs =
+    omega (arith, c .before .before .before .before .before .before .before .pre .whole, first (c .before) .next, ap width (c .has-deadline .ensures))
 
 is-redundant-requires-2 : tie.Need-is-redundant-requires-2
 is-redundant-requires-2 c κs = search needs
 
 add-t19 : tie.Need-add-t19
-add-t19 c = omega (arith, c .before .before .before .before .before .before .before .before .before .before .before .pre, first (c .before .before .before .before .before) .next)
+add-t19 c = let d = c .before .before .before .before .before in omega (arith, d .before .before .before .before .before .before .pre, first d .next)
 
 returns-2 : tie.Need-returns-2
 returns-2 c =
-    let s = c .before .before .before .before .before .before .before .before .before .before .before in
-    let a = s .args in
-    let b = a .bytes .now in
-    let h = a .h in
     let d = c .before in
-    deadline-refused h (a .job) (a .at) b (first (d .before .before .before .before))
-    (field-read (hasDeadline (mapOf b)) (deadlineAt (mapOf b)) (absentDeadline h) b (d .before .before .before .has-deadline .ensures) (first (d .before .before .before .before) .next) (d .before .before .field2 .ensures) (d .before .is-redundant2 .ensures) (d .if2 .taken))
+    let a = d .before .before .before .before .before .before .before .before .before .before .args in
+    deadline-refused (a .h) (a .job) (a .at) (a .bytes .now) (first (d .before .before .before .before))
+    (field-read (d .before .before .before .has-deadline .ensures) (first (d .before .before .before .before) .next)
+    (d .before .before .field2 .ensures) (d .before .is-redundant2 .ensures) (d .if2 .taken))
 
 has-volume-requires : tie.Need-has-volume-requires
 has-volume-requires c κs = search needs
 
 field-requires-3 : tie.Need-field-requires-3
-field-requires-3 c κs = omega (arith, c .before .before .before .before .before .before .before .before .before .before .before .pre .whole, second (c .before) .next, ap width (c .has-volume .ensures))
+field-requires-3 c κs =
+    omega (arith, c .before .before .before .before .before .before .before .before .before .before .before .pre .whole, second (c .before) .next, ap width (c .has-volume .ensures))
 
 is-redundant-requires-3 : tie.Need-is-redundant-requires-3
 is-redundant-requires-3 c κs = search needs
 
 add-t22 : tie.Need-add-t22
-add-t22 c = omega (arith, c .before .before .before .before .before .before .before .before .before .before .before .before .before .before .before .pre, second (c .before .before .before .before .before) .next)
+add-t22 c = let d = c .before .before .before .before .before in omega (arith, d .before .before .before .before .before .before .before .before .before .before .pre, second d .next)
 
 returns-3 : tie.Need-returns-3
 returns-3 c =
-    let s = c .before .before .before .before .before .before .before .before .before .before .before .before .before .before .before in
-    let a = s .args in
-    let b = a .bytes .now in
     let d = c .before in
-    volume-refused (a .h) (a .job) (a .at) b (first (d .before .before .before .before .before .before .before .before)) (second (d .before .before .before .before))
-    (field-read (hasVolume (mapOf b)) (volumeAt (mapOf b)) absentVolume b (d .before .before .before .has-volume .ensures) (second (d .before .before .before .before) .next) (d .before .before .field3 .ensures) (d .before .is-redundant3 .ensures) (d .if3 .taken))
+    let a = d .before .before .before .before .before .before .before .before .before .before .before .before .before .before .args in
+    volume-refused (a .h) (a .job) (a .at) (a .bytes .now) (first (d .before .before .before .before .before .before .before .before)) (second (d .before .before .before .before))
+    (field-read (d .before .before .before .has-volume .ensures) (second (d .before .before .before .before) .next)
+    (d .before .before .field3 .ensures) (d .before .is-redundant3 .ensures) (d .if3 .taken))
 
 check-job-requires : tie.Need-check-job-requires
 check-job-requires c κs = search needs
@@ -98,17 +99,19 @@ enum-known-r c = search needs
 
 returns-4 : tie.Need-returns-4
 returns-4 c =
-    let j = c .before .before .check-job in
     let d = c .before .before .before in
+    let j = c .before .before .check-job in
     let a = d .before .before .before .before .before .before .before .before .before .before .before .before .before .before .args in
-    job-read (a .h) (a .job) (a .at) (a .bytes .now) (first (d .before .before .before .before .before .before .before .before)) (second (d .before .before .before .before)) (third d) (j .result) (j .ensures) (c .enum-told .given .1)
+    job-read (a .h) (a .job) (a .at) (a .bytes .now) (first (d .before .before .before .before .before .before .before .before)) (second (d .before .before .before .before)) (third d)
+    (j .result) (j .ensures) (c .enum-told .given .1)
 
 returns-5 : tie.Need-returns-5
 returns-5 c =
-    let j = c .before .before .before .check-job in
     let d = c .before .before .before .before in
+    let j = c .before .before .before .check-job in
     let a = d .before .before .before .before .before .before .before .before .before .before .before .before .before .before .args in
-    job-refused (a .h) (a .job) (a .at) (a .bytes .now) (first (d .before .before .before .before .before .before .before .before)) (second (d .before .before .before .before)) (third d) (j .result) (j .ensures) _ (c .before .r .given .1)
+    job-refused (a .h) (a .job) (a .at) (a .bytes .now) (first (d .before .before .before .before .before .before .before .before)) (second (d .before .before .before .before)) (third d)
+    (j .result) (j .ensures) _ (c .before .r .given .1)
 
 pub read-fields-spec : {M : Type 1} → statement M
 read-fields-spec =

@@ -21,7 +21,9 @@ width-requires-2 : tie.Need-width-requires-2
 width-requires-2 c κs = search needs
 
 add-result-2 : tie.Need-add-result-2
-add-result-2 c = omega (arith, c .before .before .width .ensures, width-small (c .before .before .before .has-release .result), c .width2 .ensures, width-small (c .before .has-deadline .result))
+add-result-2 c =
+    let d = c .before .before in
+    omega (arith, d .width .ensures, width-small (d .before .has-release .result), c .width2 .ensures, width-small (c .before .has-deadline .result))
 
 has-volume-requires : tie.Need-has-volume-requires
 has-volume-requires c κs = search needs
@@ -32,7 +34,16 @@ width-requires-3 c κs = search needs
 add-result-3 : tie.Need-add-result-3
 add-result-3 c =
     let d = c .before .before in
-    omega (arith, d .before .before .width .ensures, width-small (d .before .before .before .has-release .result), d .width2 .ensures, width-small (d .before .has-deadline .result), c .width3 .ensures, width-small (c .before .has-volume .result))
+    let e = d .before .before in
+    omega (
+      arith,
+      e .width .ensures,
+      width-small (e .before .has-release .result),
+      d .width2 .ensures,
+      width-small (d .before .has-deadline .result),
+      c .width3 .ensures,
+      width-small (c .before .has-volume .result),
+    )
 
 returns : tie.Need-returns
 returns c = cc

@@ -17,7 +17,8 @@ enum-told c = search needs
 header-requires : tie.Need-header-requires
 header-requires c κs =
     let b = c .before .before .before .before .args .bytes .now in
-    header-passed b (told (c .before .before .check-header .result) (headerCheck b) Passed (c .before .before .check-header .ensures) (c .enum-told .given .1)) .long
+    let h = c .before .before .check-header in
+    header-passed b (told (h .result) (headerCheck b) Passed (h .ensures) (c .enum-told .given .1)) .long
 
 check-lent-requires : tie.Need-check-lent-requires
 check-lent-requires c κs = search needs
@@ -30,7 +31,8 @@ returns c =
     let a = c .before .before .before .before .before .before .args in
     let b = a .bytes .now in
     let h = c .before .before .before .before .check-header in
-    front-lent b (a .releases) (a .deadlines) (a .volumes) (c .before .header .result) (c .check-lent .result) (c .before .header .ensures) (told (h .result) (headerCheck b) Passed (h .ensures) (c .before .before .enum-told .given .1)) (c .check-lent .ensures)
+    front-lent b (a .releases) (a .deadlines) (a .volumes) (c .before .header .result) (c .check-lent .result) (c .before .header .ensures)
+    (told (h .result) (headerCheck b) Passed (h .ensures) (c .before .before .enum-told .given .1)) (c .check-lent .ensures)
 
 returns-2 : tie.Need-returns-2
 returns-2 c =

@@ -1,5 +1,4 @@
 -- `reader::check_lent` meets its contract: the tests are those of `lentCheck`, in its order.
-use borrow.Author.Needs.{needs}
 use borrow.Author.Tests.{lt-ltb, le-ltb}
 use Rattle.joblist.proofs.reader.check_lent.Statement.{statement}
 use Rattle.joblist.proofs.reader.check_lent.Tie as tie

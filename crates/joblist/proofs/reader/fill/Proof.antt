@@ -54,7 +54,8 @@ returns c =
     let k = c .before .before .before .before .before .before .before in
     let j = k .before .before .before .before .before in
     let m = j .before .before .before in
-    fill-passed (m .before .before .before .before .before .walk .ensures) (m .enum-told .given .1) (j .copy .ensures) (k .copy2 .ensures) (c .before .before .copy3 .ensures)
+    fill-passed (m .before .before .before .before .before .walk .ensures) (m .enum-told .given .1)
+    (j .copy .ensures) (k .copy2 .ensures) (c .before .before .copy3 .ensures)
 
 returns-2 : tie.Need-returns-2
 returns-2 c = fill-refused (c .before .before .before .before .before .before .walk .ensures) _ (c .before .r .given .1)

@@ -2,7 +2,6 @@
 use borrow.Author.Needs.{needs}
 use Prim.Native.Nat.{_-_}
 use native.Mathlib.Omega.{arith}
-use lib.ListN.{length, take, drop}
 use Rattle.joblist.proofs.Walk.{part-rest, part-length, WalkedTo, walk-start, walk-inside, walk-next, walk-stop, walk-left-over, walk-end}
 use Rattle.joblist.proofs.reader.walk.Statement.{statement}
 use Rattle.joblist.proofs.reader.walk.Tie as tie
@@ -28,7 +27,9 @@ part-rest-end : tie.Need-part-rest-end Inv-loop μ-loop
 part-rest-end c = search needs
 
 read-requires : tie.Need-read-requires Inv-loop μ-loop
-read-requires c κs = let l = c .before .before .loop in part-length (l .at) (c .before .before .before .before .before .before .before .args .bytes .now) (l .inv .inside)
+read-requires c κs =
+    let l = c .before .before .loop in
+    part-length (l .at) (c .before .before .before .before .before .before .before .args .bytes .now) (l .inv .inside)
 
 enum-known-f : tie.Need-enum-known-f Inv-loop μ-loop
 enum-known-f c = search needs
@@ -56,8 +57,9 @@ add-at c =
     let k = c .before .before .before .before .read in
     let t = c .before .before .before .before .before .before in
     let l = t .before .loop in
+    let f = c .before .before .f .given in
     let b = t .before .before .before .before .before .before .args .bytes .now in
-    omega (arith, walk-inside (l .inv) (t .loop-test .taken) (part-rest (l .at) b) (k .ensures) (c .before .before .f .given .0 .0) (c .before .before .f .given .1))
+    omega (arith, walk-inside (l .inv) (t .loop-test .taken) (part-rest (l .at) b) (k .ensures) (f .0 .0) (f .1))
 
 add-job : tie.Need-add-job Inv-loop μ-loop
 add-job c = search needs
@@ -70,8 +72,9 @@ loop-again c =
     let k = c .before .before .before .before .read in
     let t = c .before .before .before .before .before .before in
     let l = t .before .loop in
+    let f = c .before .before .f .given in
     let b = t .before .before .before .before .before .before .args .bytes .now in
-    walk-next (l .inv) (t .loop-test .taken) (part-rest (l .at) b) (k .ensures) (c .before .before .f .given .0 .0) (c .before .before .f .given .1)
+    walk-next (l .inv) (t .loop-test .taken) (part-rest (l .at) b) (k .ensures) (f .0 .0) (f .1)
 
 enum-known-r : tie.Need-enum-known-r Inv-loop μ-loop
 enum-known-r c = search needs
@@ -115,7 +118,9 @@ same-length-9 : tie.Need-same-length-9 Inv-loop μ-loop
 same-length-9 c = c .before .before .loop .inv .volumes .same
 
 returns-3 : tie.Need-returns-3 Inv-loop μ-loop
-returns-3 c = walk-end (c .before .before .loop .inv) (c .before .before .before .before .before .before .before .pre) (c .before .loop-test .left) (c .if1 .left)
+returns-3 c =
+    let l = c .before .before in
+    walk-end (l .loop .inv) (l .before .before .before .before .before .pre) (c .before .loop-test .left) (c .if1 .left)
 
 pub walk-spec : {M : Type 1} → statement M
 walk-spec =

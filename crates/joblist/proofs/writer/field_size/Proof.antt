@@ -1,5 +1,4 @@
 -- `writer::field_size` meets its contract.
-use borrow.Author.Needs.{needs}
 use borrow.Author.Tests.{eq-eqb, ne-eqb}
 use Rattle.joblist.proofs.writer.field_size.Statement.{statement}
 use Rattle.joblist.proofs.writer.field_size.Tie as tie

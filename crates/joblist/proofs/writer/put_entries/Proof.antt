@@ -1,8 +1,7 @@
 -- `writer::put_entries` meets its contract. The invariant: what is left to store gives what all of it gives.
 use borrow.Author.Needs.{needs}
 use Prim.Native.Nat.{_≤_, _-_}
-use mathlib.Core.Path.{_≡_, refl, sym, ap, _∙_}
-use native.Mathlib.Omega.{arith}
+use mathlib.Core.Path.{refl}
 use lib.ListN.{length}
 use Rattle.joblist.proofs.Spelling.{Stored, stored-room, stored-next, stored-end}
 use Rattle.joblist.proofs.writer.put_entries.Statement.{statement}

@@ -1,6 +1,5 @@
 -- `writer::put_entry` meets its contract: the map byte and the three fields stand one behind the other.
 use borrow.Author.Needs.{needs}
-use mathlib.Core.Path.{_≡_, refl, sym, ap, _∙_}
 use native.Mathlib.Omega.{arith}
 use lib.ListN.{set, length-set}
 use Rattle.joblist.proofs.Spelling.{entry-length, put-length, put-entry}

@@ -1,7 +1,7 @@
 -- `writer::size` meets its contract. The invariant: the sum so far, with the length of what is left, is the length of all.
 use borrow.Author.Needs.{needs}
 use Prim.Native.Nat.{_+_, _*_, _≤_, _-_}
-use mathlib.Core.Path.{_≡_, refl, sym, ap, _∙_}
+use mathlib.Core.Path.{_≡_, refl}
 use native.Mathlib.Omega.{arith}
 use lib.ListN.{length, getD, drop}
 use Rattle.joblist.specs.Bytes.{headerLength, entriesBytes}
