@@ -133,8 +133,9 @@ pub shown-ends : (J : Jobs) (i : Interval) → Passes J → shownOverload J ≡ 
     ((k : ℕ) × (k < count J) × (release J k ≡ i .a)) × ((k : ℕ) × (k < count J) × (deadline J k ≡ i .b))
 shown-ends J i p e = let s = shown-some J i e in (shown-release J p i s, shown-deadline J p i s)
 
--- So a search over releases and deadlines finds it, with the jobs in any order by falling release: it is the least deadline for which the volumes, added
--- up in this order, exceed the slots from some release on, and the first such release.
+-- So a search over releases and deadlines finds it, with the jobs in any order by falling release: it is the least deadline for which the volumes,
+-- added up in this order, exceed the slots from some release on, and the first such release.
 pub search-finds-shown :
-    (J : Jobs) (order : List ℕ) (found : Option Interval) → Passes J → InOrder (release J) (count J) order → Ending J order found → found ≡ shownOverload J
+    (J : Jobs) (order : List ℕ) (found : Option Interval) → Passes J → InOrder (release J) (count J) order →
+    Ending J order found → found ≡ shownOverload J
 search-finds-shown J order found p o e = ending-shown J p order o found e

@@ -1,5 +1,6 @@
 pub mod Filling
-pub mod Adding
+pub mod Taking
 pub mod Visiting
+pub mod Starts
 pub mod Searching
 pub mod Showing

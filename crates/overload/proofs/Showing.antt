@@ -1,21 +1,21 @@
 -- What `find` hands over to its parts, and that what they find is what is shown.
 use Prim.Native.Nat.{ℕ, _≤_, _<_}
-use mathlib.Core.Path.{_≡_, ap, _∙_}
+use mathlib.Core.Path.{_≡_, ap}
 use mathlib.Core.List.{List}
 use mathlib.Core.Option.{Option, none, some}
 use native.Mathlib.Decide.{decLt}
 use native.Mathlib.Omega.{arith}
-use lib.ListN.{length, getD, replicate, length-replicate, getD-replicate}
+use lib.ListN.{length, getD}
 use Rattle.sched.specs.Jobs.{Jobs, count, deadline}
 use Rattle.sched.specs.Checks.{Passes}
 use Rattle.sched.specs.Overload.{shownOverload}
 use Rattle.sched.specs.declared.Interval.{Interval}
 use Rattle.edf.specs.Overload.Search.{startFor, Ending}
 use Rattle.edf.specs.Overload.Search.Laws.{ending-shown}
-use Rattle.ranking.specs.Order.{keyOf, ByPlace, Orders}
+use Rattle.ranking.specs.Order.{keyOf, Orders}
 use Rattle.ranking.specs.Order.Both.{ranks-long, ranked-jobs, by-falling-release}
-use Rattle.overload.specs.Ends.{Rising, Firsts}
-use Rattle.overload.specs.Search.{falling, Searchable, Searched}
+use Rattle.overload.specs.Room.{Rooms, Rising}
+use Rattle.overload.specs.Search.{falling, Searched}
 
 module _ (J : Jobs) (order soon : List ℕ) (p : Passes J) (o : Orders (J .releases) (J .deadlines) order soon) where
   long : length order ≡ count J
@@ -34,25 +34,13 @@ module _ (J : Jobs) (order soon : List ℕ) (p : Passes J) (o : Orders (J .relea
       go (yes h) = ranked-jobs J order soon p o .rising i k h l .sooner
       go (no h) = let q : i ≡ k = omega arith in rw q (omega arith)
 
-  module _ (due : List ℕ) (b : ByPlace (J .deadlines) order due) where
-    pub ends-rise : Rising (length order) due
-    ends-rise =
-        record {
-          few = ranks-few;
-          long = omega (arith, ranks-few, b .long);
-          rising = λ i k m l. omega (arith, rises i k m (omega (arith, long)), b .each i (omega arith), b .each k l);
-        }
-
-    pub ends-searchable : (first : List ℕ) → Firsts (length order) due first → Searchable J order soon due first (replicate 64 0)
-    ends-searchable first f =
-        record {
-          passes = p;
-          orders = o;
-          ends = b;
-          firsts = f;
-          places = length-replicate {A = ℕ} 64 0;
-          none-yet = λ i l. getD-replicate 64 i 0 0 l;
-        }
+  pub ends-rise : (room : List ℕ) → Rooms (J .deadlines) order room → Rising (length order) room
+  ends-rise room b =
+      record {
+        few = ranks-few;
+        long = omega (arith, ranks-few, b .long);
+        rising = λ i k m l. omega (arith, rises i k m (omega (arith, long)), b .each i (omega arith), b .each k l);
+      }
 
   module _ (lim start : ℕ) (s : Searched J order soon lim start) where
     shown : (x : Option Interval) → Ending J (falling order soon) x → x ≡ shownOverload J
@@ -74,13 +62,10 @@ module _ (J : Jobs) (order soon : List ℕ) (p : Passes J) (o : Orders (J .relea
         before (yes f) = f
         before (no f) = absurd (omega (arith, rises lim i (omega arith) l, ap (deadline J) e))
 
-    pub shows-at :
-        (due : List ℕ) → ByPlace (J .deadlines) order due → lim < length order →
-        some (record { a = start; b = getD due lim 0 }) ≡ shownOverload J
-    shows-at due b m =
+    pub shows-at : lim < length order → some (record { a = start; b = deadline J (keyOf order lim) }) ≡ shownOverload J
+    shows-at m =
         let l : lim < count J = omega (arith, long) in
-        ap (λ (e : ℕ). some (record { a = start; b = e })) (b .each lim m)
-        ∙ shown (some (record { a = start; b = deadline J (keyOf order lim) })) (record {
+        shown (some (record { a = start; b = deadline J (keyOf order lim) })) (record {
           within = p .good (keyOf order lim) (ranked-jobs J order soon p o .known lim l) .within;
           start = s .here l;
           least = λ k n h. earlier k h (ranked-jobs J order soon p o .ranked k n);

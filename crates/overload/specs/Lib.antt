@@ -1,4 +1,3 @@
 -- What the functions of the search promise each other.
-pub mod Ends
-pub mod Sums
+pub mod Room
 pub mod Search

@@ -1,5 +1,6 @@
-// Step 1: the overloaded interval that is shown. An end is a deadline, a start is a release. The jobs are visited by falling release, and for the
-// deadline of each rank the volumes of the visited jobs that end by it are summed up.
+// Step 1: the overloaded interval that is shown. An end is a deadline, a start is a release. Every end has room for as many units as there are slots
+// before it. The jobs are visited by falling release, and each takes its volume from the ends that are not before its deadline. An end is overfull
+// from a release on if it then has less room than there are slots before the release.
 use sched::Interval;
 ghost use mathlib.Core.Path.{_≡_};
 ghost use Prim.Native.Nat.{ℕ, _≤_, _<_};
@@ -7,47 +8,49 @@ ghost use lib.ListN.{length, getD};
 ghost use Rattle.sched.specs.Jobs.{jobsOf};
 ghost use Rattle.sched.specs.Checks.{Passes};
 ghost use Rattle.sched.specs.Overload.{shownOverload};
-ghost use Rattle.ranking.specs.Order.{ByPlace, Orders};
-ghost use Rattle.overload.specs.Ends.{Rising, Firsts};
-ghost use Rattle.overload.specs.Sums.{Addable, Added, Findable, LeastOver, Visited};
+ghost use Rattle.ranking.specs.Order.{Orders};
+ghost use Rattle.overload.specs.Room.{Rooms, Rising, Firsts, Takeable, Taken, Findable, LeastOver, Visited};
 ghost use Rattle.overload.specs.Search.{shownOf, Searchable, Searched};
+
+// More than 64 volumes together, so that no room falls below 0.
+const SPARE: u32 = 4194304;
 
 pub enum Shown {
     Nothing,
     At(Interval),
 }
 
-// The ends of the ranks before `lim` are not overfull from any start so far, and that of `lim`, if there is such a rank, is from `start` on.
+// The ends of the ranks before `lim` are not overfull yet, and that of `lim`, if there is such a rank, is from `start` on.
 struct Found {
     lim: usize,
-    start: u32,
+    start: u16,
 }
 
-// The deadlines by rank.
-fn dues(deadlines: &[u16], order: &[u8]) -> [u32; 64]
+// The room of each rank before any visit: its deadline, and some to spare.
+fn rooms(deadlines: &[u16], order: &[u8]) -> [u32; 64]
     requires { ⌜ (length (now order) ≤ 64) × ((k : ℕ) → k < length (now order) → getD (now order) k 0 < length (now deadlines)) ⌝ }
-    ensures { λ r. ⌜ ByPlace (now (deadlines .entry)) (now (order .entry)) r ⌝ }
+    ensures { λ r. ⌜ Rooms (now (deadlines .entry)) (now (order .entry)) r ⌝ }
 {
-    let mut due = [0u32; 64];
+    let mut room = [0u32; 64];
     let mut k = 0;
     while k < order.len() {
         let job = order[k] as usize;
-        due[k] = deadlines[job] as u32;
+        room[k] = SPARE + deadlines[job] as u32;
         k += 1;
     }
-    due
+    room
 }
 
 // For each of n ranks the first with its deadline.
-fn firsts(n: usize, due: &[u32]) -> [u8; 64]
-    requires { ⌜ Rising n (now due) ⌝ }
-    ensures { λ r. ⌜ Firsts n (now (due .entry)) r ⌝ }
+fn firsts(n: usize, room: &[u32]) -> [u8; 64]
+    requires { ⌜ Rising n (now room) ⌝ }
+    ensures { λ r. ⌜ Firsts n (now (room .entry)) r ⌝ }
 {
     let mut first = [0u8; 64];
     let mut at = 0;
     let mut k = 0;
     while k < n {
-        if due[at] < due[k] {
+        if room[at] < room[k] {
             at = k;
             first[k] = k as u8;
             k += 1;
@@ -59,17 +62,17 @@ fn firsts(n: usize, due: &[u32]) -> [u8; 64]
     first
 }
 
-// Adds p to the sums of the ranks from `from` up to `lim`, and notes whether one of them is too much for the slots from a to the end.
-fn add_from(from: usize, lim: usize, p: u32, a: u32, due: &[u32], sums: &mut [u32]) -> bool
-    requires { ⌜ Addable (now due) (now sums) lim p a ⌝ }
-    ensures { λ r. ⌜ Added (now (due .entry)) (now (sums .entry)) (now (sums .exit)) from lim p a r ⌝ }
+// Takes p from the rooms of the ranks from `from` up to `lim`, and notes whether one falls below `floor`.
+fn take_from(from: usize, lim: usize, p: u32, floor: u32, room: &mut [u32]) -> bool
+    requires { ⌜ Takeable (now room) lim p ⌝ }
+    ensures { λ r. ⌜ Taken (now (room .entry)) (now (room .exit)) from lim p floor r ⌝ }
 {
     let mut over = false;
     let mut i = from;
     while i < lim {
-        let sum = sums[i] + p;
-        sums[i] = sum;
-        if due[i] < sum + a {
+        let left = room[i] - p;
+        room[i] = left;
+        if left < floor {
             over = true;
             i += 1;
         } else {
@@ -79,26 +82,27 @@ fn add_from(from: usize, lim: usize, p: u32, a: u32, due: &[u32], sums: &mut [u3
     over
 }
 
-// The first of these ranks, of which there is one.
-fn least_over(from: usize, a: u32, due: &[u32], sums: &[u32]) -> usize
-    requires { ⌜ Findable (now due) (now sums) from a ⌝ }
-    ensures { λ r. ⌜ LeastOver (now (due .entry)) (now (sums .entry)) from a r ⌝ }
+// The first rank from `from` on that is below, of which there is one.
+fn least_over(from: usize, floor: u32, room: &[u32]) -> usize
+    requires { ⌜ Findable (now room) from floor ⌝ }
+    ensures { λ r. ⌜ LeastOver (now (room .entry)) from floor r ⌝ }
 {
-    let mut i = from;
-    while sums[i] + a <= due[i] {
-        i += 1;
+    let mut end = from;
+    while floor <= room[end] {
+        end += 1;
     }
-    i
+    end
 }
 
 // A job with the volume p and the release a is visited; `from` is the first rank with its deadline.
-fn visit(from: usize, p: u32, a: u32, found: Found, due: &[u32], sums: &mut [u32]) -> Found
-    requires { ⌜ Addable (now due) (now sums) (found .lim) p a ⌝ }
-    ensures { λ r. ⌜ Visited (now (due .entry)) (now (sums .entry)) (now (sums .exit)) from p a (found .lim) (found .start) (r .lim) (r .start) ⌝ }
+fn visit(from: usize, p: u16, a: u16, found: Found, room: &mut [u32]) -> Found
+    requires { ⌜ Takeable (now room) (found .lim) p ⌝ }
+    ensures { λ r. ⌜ Visited (now (room .entry)) (now (room .exit)) from p a (found .lim) (found .start) (r .lim) (r .start) ⌝ }
 {
-    if add_from(from, found.lim, p, a, due, sums) {
+    let floor = SPARE + a as u32;
+    if take_from(from, found.lim, p as u32, floor, room) {
         return Found {
-            lim: least_over(from, a, due, sums),
+            lim: least_over(from, floor, room),
             start: a,
         };
     }
@@ -114,11 +118,10 @@ fn search(
     volumes: &[u16],
     order: &[u8],
     soon: &[u8],
-    due: &[u32],
     first: &[u8],
-    sums: &mut [u32],
+    room: &mut [u32],
 ) -> Found
-    requires { ⌜ Searchable (jobsOf h q (now releases) (now deadlines) (now volumes)) (now order) (now soon) (now due) (now first) (now sums) ⌝ }
+    requires { ⌜ Searchable (jobsOf h q (now releases) (now deadlines) (now volumes)) (now order) (now soon) (now first) (now room) ⌝ }
     ensures { λ r. ⌜ Searched (jobsOf h q (now (releases .entry)) (now (deadlines .entry)) (now (volumes .entry))) (now (order .entry)) (now (soon .entry)) (r .lim) (r .start) ⌝ }
 {
     let mut found = Found {
@@ -132,17 +135,16 @@ fn search(
         let job = order[rank] as usize;
         found = visit(
             first[rank] as usize,
-            volumes[job] as u32,
-            releases[job] as u32,
+            volumes[job],
+            releases[job],
             found,
-            due,
-            sums,
+            room,
         );
     }
     found
 }
 
-// The interval that step 1 shows, of a list that passes the checks.
+// The interval that step 1 shows, of a list that passes the checks, with its jobs by deadline and their ranks by release.
 pub fn find(
     h: u16,
     q: u16,
@@ -155,9 +157,8 @@ pub fn find(
     requires { ⌜ Passes (jobsOf h q (now releases) (now deadlines) (now volumes)) × Orders (now releases) (now deadlines) (now order) (now soon) ⌝ }
     ensures { λ r. ⌜ shownOf r ≡ shownOverload (jobsOf h q (now (releases .entry)) (now (deadlines .entry)) (now (volumes .entry))) ⌝ }
 {
-    let due = dues(deadlines, order);
-    let first = firsts(order.len(), &due);
-    let mut sums = [0u32; 64];
+    let mut room = rooms(deadlines, order);
+    let first = firsts(order.len(), &room);
     let found = search(
         h,
         q,
@@ -166,15 +167,15 @@ pub fn find(
         volumes,
         order,
         soon,
-        &due,
         &first,
-        &mut sums,
+        &mut room,
     );
     let end = found.lim;
     if end < order.len() {
+        let job = order[end] as usize;
         return Shown::At(Interval {
             a: found.start as usize,
-            b: due[end] as usize,
+            b: deadlines[job] as usize,
         });
     }
     Shown::Nothing

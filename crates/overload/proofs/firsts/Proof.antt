@@ -1,16 +1,15 @@
--- `overload::firsts` meets its contract: a rank is the first with its end, or has the first of the rank before it.
+-- `overload::firsts` meets its contract: a rank is the first with its deadline, or has the first of the rank before it.
 use Prim.Native.Nat.{_-_}
-use native.Mathlib.Omega.{arith}
 use borrow.Author.Needs.{needs}
 use Rattle.overload.proofs.Filling.{Sorting, sorting-start, sorting-new, sorting-same, sorting-end}
 use Rattle.overload.proofs.firsts.Statement.{statement}
 use Rattle.overload.proofs.firsts.Tie as tie
 
 abbrev Inv-loop : tie.InvT-loop
-Inv-loop n due first₀ at₀ k₀ first at k = Sorting n due first at k
+Inv-loop n room first₀ at₀ k₀ first at k = Sorting n room first at k
 
 abbrev μ-loop : tie.MeasureT-loop
-μ-loop n due first₀ at₀ k₀ first at k = n - k
+μ-loop n room first₀ at₀ k₀ first at k = n - k
 
 loop-holds : tie.Need-loop-holds Inv-loop μ-loop
 loop-holds c = sorting-start _ _ (c .pre)

@@ -1,47 +1,38 @@
--- `overload::least_over` meets its contract: it stops at the first rank that is overfull.
+-- `overload::least_over` meets its contract: it stops at the first rank below the floor.
 use Prim.Native.Nat.{_-_}
 use native.Mathlib.Omega.{arith}
 use borrow.Author.Needs.{needs}
 use lib.ListN.{length}
-use Rattle.overload.proofs.Adding.{Finding, finding-start, finding-high, finding-turn, finding-end}
+use Rattle.overload.proofs.Taking.{Finding, finding-start, finding-place, finding-turn, finding-end}
 use Rattle.overload.proofs.least_over.Statement.{statement}
 use Rattle.overload.proofs.least_over.Tie as tie
 
 abbrev Inv-loop : tie.InvT-loop
-Inv-loop from a due sums i₀ i = Finding due sums from a i
+Inv-loop from floor room end₀ end = Finding room from floor end
 
 abbrev μ-loop : tie.MeasureT-loop
-μ-loop from a due sums i₀ i = length due - i
+μ-loop from floor room end₀ end = length room - end
 
 loop-holds : tie.Need-loop-holds Inv-loop μ-loop
-loop-holds c = finding-start _ _ _ _ (c .pre)
+loop-holds c = finding-start _ _ _ (c .pre)
 
 mul-if1 : tie.Need-mul-if1 Inv-loop μ-loop
-mul-if1 c = search (needs, finding-high _ _ _ _ _ (c .loop .inv))
+mul-if1 c = search (needs, finding-place _ _ _ _ (c .loop .inv))
 
 shared-slice-read-if1 : tie.Need-shared-slice-read-if1 Inv-loop μ-loop
-shared-slice-read-if1 c = omega (arith, finding-high _ _ _ _ _ (c .before .loop .inv), c .before .loop .inv .ready .places)
+shared-slice-read-if1 c = finding-place _ _ _ _ (c .before .loop .inv)
 
-add-if1 : tie.Need-add-if1 Inv-loop μ-loop
-add-if1 c = omega (arith, finding-high _ _ _ _ _ (c .before .loop .inv), c .before .loop .inv .ready .narrow (c .before .loop .i) (finding-high _ _ _ _ _ (c .before .loop .inv)))
-
-mul-if1-2 : tie.Need-mul-if1-2 Inv-loop μ-loop
-mul-if1-2 c = search (needs, finding-high _ _ _ _ _ (c .before .loop .inv))
-
-shared-slice-read-if1-2 : tie.Need-shared-slice-read-if1-2 Inv-loop μ-loop
-shared-slice-read-if1-2 c = omega (arith, finding-high _ _ _ _ _ (c .before .before .loop .inv), c .before .before .loop .inv .ready .ends)
-
-add-i : tie.Need-add-i Inv-loop μ-loop
-add-i c = search (needs, finding-high _ _ _ _ _ (c .before .before .before .loop .inv))
+add-end : tie.Need-add-end Inv-loop μ-loop
+add-end c = search (needs, finding-place _ _ _ _ (c .before .before .loop .inv))
 
 loop-less : tie.Need-loop-less Inv-loop μ-loop
-loop-less c = omega (arith, finding-high _ _ _ _ _ (c .before .before .before .loop .inv), c .before .before .before .loop .inv .ready .ends)
+loop-less c = omega (arith, finding-place _ _ _ _ (c .before .before .loop .inv))
 
 loop-again : tie.Need-loop-again Inv-loop μ-loop
-loop-again c = finding-turn _ _ _ _ _ (c .before .before .before .loop .inv) (c .if1 .taken)
+loop-again c = finding-turn _ _ _ _ (c .before .before .loop .inv) (c .if1 .taken)
 
 returns : tie.Need-returns Inv-loop μ-loop
-returns c = finding-end _ _ _ _ _ (c .before .before .before .loop .inv) (c .if1 .left)
+returns c = finding-end _ _ _ _ (c .before .before .loop .inv) (c .if1 .left)
 
 pub least-over-spec : {M : Type 1} → statement M
 least-over-spec =
@@ -52,10 +43,7 @@ least-over-spec =
     loop-holds
     mul-if1
     shared-slice-read-if1
-    add-if1
-    mul-if1-2
-    shared-slice-read-if1-2
-    add-i
+    add-end
     loop-less
     loop-again
     returns)

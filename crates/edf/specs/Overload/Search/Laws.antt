@@ -102,7 +102,7 @@ known-most J p (j ∷ js) (k, ks) = (omega (arith, p .good j k), known-most J p 
 
 module _ (J : Jobs) (p : Passes J) (order : List ℕ) (by-release : InOrder (release J) (count J) order) where
   -- the greatest start for the end b
-  pub start-for : (b : ℕ) → b ≤ J .horizon → Starts J b (startFor J b order 0)
+  start-for : (b : ℕ) → b ≤ J .horizon → Starts J b (startFor J b order 0)
   unfolding volumeInside
   start-for b within =
       start-right J p b within order 0 (J .horizon) (record {
