@@ -116,9 +116,6 @@ Ended starts rests from low through₀ end through k =
     × (through ≡ throughCost J (drop from order) vs end)
 
 module _ (starts rests : List ℕ) (from low through₀ : ℕ) where
-  pub ended-start : Ended starts rests from low through₀ low through₀ from
-  ended-start J order vs e r t = (refl, t)
-
   pub ended-turn : (end through k end′ through′ : ℕ) → from ≤ k → k < length starts
       → end′ ≡ chosen (wins low (getD starts k 0 + 1) (getD starts k 0 + 1 + getD rests k 0) end through) (getD starts k 0 + 1) end
       → through′ ≡ chosen (wins low (getD starts k 0 + 1) (getD starts k 0 + 1 + getD rests k 0) end through) (getD starts k 0 + 1 + getD rests k 0) through
@@ -148,9 +145,6 @@ pub record Waked (first cost : ℕ) (starts rests₀ rests : List ℕ) (k : ℕ)
   pub left : (j : ℕ) → k ≤ j → getD rests j 0 ≡ getD rests₀ j 0
 
 module _ (first cost : ℕ) (starts rests₀ : List ℕ) where
-  pub waked-start : length rests₀ ≡ length starts → Waked first cost starts rests₀ rests₀ 0
-  waked-start s = record { within = omega arith; same = s; kept = refl; done = λ j l. absurd (omega arith); left = λ j l. refl }
-
   pub waked-turn : (rests : List ℕ) (k v : ℕ) → k < length starts → v ≡ chosen (ltb (getD starts k 0) first) cost (getD rests k 0)
       → Waked first cost starts rests₀ rests k → Waked first cost starts rests₀ (set rests k v) (k + 1)
   waked-turn rests k v l e m = record {

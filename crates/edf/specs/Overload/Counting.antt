@@ -1,24 +1,21 @@
--- A feasible table has a slot for each unit of each job: so it is a placement of the whole volume, and the jobs inside an interval find their
--- units in slots of that interval, at most one a slot.
+-- A feasible table has a slot for each unit of each job: so the jobs inside an interval find their units in slots of that interval, at most one
+-- a slot.
 use Prim.Native.Nat.{ℕ, zero, suc, _+_, _-_, _≤_, _<_}
 use mathlib.Core.Path.{_≡_, refl, sym, ap, ap₂, _∙_}
-use mathlib.Core.Bool.{Bool, true, false, not, _&&_, and-false, and-true as and-true-right}
+use mathlib.Core.Bool.{Bool, true, false, _&&_, and-false, and-true as and-true-right}
 use mathlib.Core.List.{List, [], _∷_}
-use mathlib.Core.Option.{none}
 use native.Mathlib.Omega.{arith}
 use native.Mathlib.Decide.{ℕ-discrete, decLt}
 use borrow.Author.Tests.{ltb-true, leb-true, lt-ltb, le-ltb, eq-eqb, ne-eqb}
-use lib.ListN.{length, getD, List·getD-map}
-use lib.Seq.{drop-cons}
+use lib.ListN.{length, getD}
 use lib.Dec.{leb, ltb, eqb}
 use Rattle.sched.specs.Bounded.{sumBelow}
-use Rattle.sched.specs.Bounded.Laws.{and-true, sum-ext, sum-add, sum-zero, sum-total}
-use Rattle.sched.specs.Jobs.{Jobs, count, release, deadline, volume, totalVolume}
-use Rattle.sched.specs.Slots.{awake, awakeOf, times, asleep}
+use Rattle.sched.specs.Bounded.Laws.{and-true, sum-ext, sum-add, sum-zero}
+use Rattle.sched.specs.Jobs.{Jobs, count, release, deadline}
+use Rattle.sched.specs.Slots.{times}
 use Rattle.sched.specs.Feasible.{Feasible}
-use Rattle.sched.specs.Overload.{overloaded, volumeIf, volumeInside, shownOverload}
-use Rattle.sched.specs.Workable.{Placement, units}
-use Rattle.edf.specs.Overload.Laws.{not-overfull, none-shown}
+use Rattle.sched.specs.Overload.{overloaded, volumeIf, volumeInside}
+use Rattle.edf.specs.Overload.Laws.{not-overfull}
 
 abbrev one : Bool → ℕ
 one true = 1
@@ -74,16 +71,6 @@ hits-most f n a b (x ∷ l) t h = go (ltb x n && f x) refl (hits-most f n a b l 
         omega arith
     go false e ih = omega arith
 
--- the units of a placement are its bytes below the number of jobs
-units-hits : (J : Jobs) (l : List ℕ) → units J l ≡ hits (λ _. true) (count J) l
-unfolding units hits
-units-hits J [] = refl
-units-hits J (x ∷ l) = go (ltb x (count J)) (units-hits J l)
-  where
-    go : (b : Bool) → units J l ≡ hits (λ _. true) (count J) l → _≡_ {A = ℕ} (elim b [ true ↦ suc (units J l) | false ↦ units J l ]) (one (b && true) + hits (λ _. true) (count J) l)
-    go true e = omega arith
-    go false e = omega arith
-
 module _ (J : Jobs) (table : List ℕ) (f : Feasible J table) where
   -- an interval has a slot for each unit of the jobs inside
   pub feasible-room : (a b : ℕ) → volumeInside J a b ≤ b - a
@@ -109,20 +96,3 @@ module _ (J : Jobs) (table : List ℕ) (f : Feasible J table) where
   -- so a list with a feasible table has no overloaded interval
   pub feasible-no-overload : (a b : ℕ) → overloaded J a b ≡ false
   feasible-no-overload a b = not-overfull J a b (λ o. omega (arith, o .more, feasible-room a b))
-
-  pub feasible-none-shown : shownOverload J ≡ none
-  feasible-none-shown = none-shown J feasible-no-overload
-
-  pub feasible-placement : count J ≤ 64 → Placement J (awakeOf table) table
-  feasible-placement few = record { long = f .long; in-set = in-set; own = f .own; often = λ j l. omega (arith, f .exact j l) }
-    where
-      in-set : (t : ℕ) → t < J .horizon → getD table t 0 < count J → awake (awakeOf table) t ≡ true
-      in-set t l k =
-          let h : t < length table = omega (arith, f .long) in
-          let byte : getD table t asleep ≡ getD table t 0 = cc (drop-cons table t asleep h, drop-cons table t 0 h) in
-          List·getD-map (λ byte. not (eqb byte asleep)) table t asleep ∙ rw (byte, ne-eqb (getD table t 0) asleep (λ q. omega arith))
-
-  -- a placement of the whole volume
-  pub feasible-units : length (J .volumes) ≡ count J → units J table ≡ totalVolume J
-  feasible-units same =
-      units-hits J table ∙ sym (counted (λ _. true) (count J) table) ∙ sum-ext (count J) _ (volume J) (f .exact) ∙ ap (λ (n : ℕ). sumBelow n (volume J)) (sym same) ∙ sum-total (J .volumes)

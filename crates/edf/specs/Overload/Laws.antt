@@ -95,6 +95,3 @@ module _ (J : Jobs) where
 
   pub shown-some : (i : Interval) → shownOverload J ≡ some i → Shown J i
   shown-some i e = subst (Shows J) e shows
-
-  pub some-shown : (i : Interval) → Shown J i → shownOverload J ≡ some i
-  some-shown i h = shows-one (shownOverload J) (some i) shows h
