@@ -1,19 +1,17 @@
 -- The loop over ranks: what is left to ask gives what the whole chain does.
 use Prim.Native.Nat.{ℕ, zero, suc, _+_, _-_, _≤_, _<_}
 use mathlib.Core.Path.{_≡_, refl, ap, sym, _∙_}
-use mathlib.Core.Bool.{true, false, true≢false, false≢true, _&&_}
+use mathlib.Core.Bool.{true, false, true≢false, false≢true}
 use mathlib.Core.List.{List}
 use native.Mathlib.Numerals.{add-one}
 use native.Mathlib.Decide.{ℕ-discrete}
 use native.Mathlib.Omega.{arith}
-use borrow.Author.Tests.{le-leb, lt-leb, lt-ltb, le-ltb}
 use mathlib.Core.Logic.{_≢_}
-use lib.Dec.{leb, ltb}
 use lib.ListN.{length, getD, set, length-set}
 use lib.Seq.{getD-set-same, getD-set-other}
 use Rattle.edf.specs.Chain.{jobAt, endBelow}
 use Rattle.edf.specs.Chain.Ends.{ends-below}
-use Rattle.edf.specs.Chain.Ranks.{RankBooks, rankBooks, Tried, tried, reaches, gainedAt, handedOn}
+use Rattle.edf.specs.Chain.Ranks.{RankBooks, rankBooks, Tried, tried, reaches, gainedAt}
 use Rattle.edf.specs.Chain.Ranks.Turns.{reaches-not-yet, reaches-no-more, reaches-if, tried-closed, tried-lost, tried-on}
 use Rattle.chain.specs.Books.{Stops, Gainable, Booked, Tryable, Attempted, attempt}
 use Rattle.chain.specs.Notes.{Noteable, slotHeld, Undoable, Undone}

@@ -1,7 +1,7 @@
 -- Demand 3 of the plan that 01 defines, what `added` counts, and step 3 to its end.
-use Prim.Native.Nat.{ℕ, suc, _+_, _-_, _≤_}
+use Prim.Native.Nat.{ℕ, _+_, _-_, _≤_}
 use mathlib.Core.Path.{_≡_, refl, sym, ap, subst, _∙_}
-use mathlib.Core.Bool.{Bool, true, false}
+use mathlib.Core.Bool.{Bool, false}
 use mathlib.Core.List.{List, _++_}
 use mathlib.Core.Option.{Option, none, some}
 use native.Mathlib.Omega.{arith}
@@ -26,7 +26,7 @@ use Rattle.sched.specs.declared.Outcome.the-variants.{Planned, Overloaded}
 use Rattle.edf.specs.Overload.{Overfull}
 use Rattle.edf.specs.Overload.Laws.{shown-none, shown-some, overfull-overloaded}
 use Rattle.edf.specs.Overload.Counting.{feasible-no-overload}
-use Rattle.demands.specs.Rivals.{SaysOverloaded, NoSchedule, HandsOver, AgainstRivals}
+use Rattle.demands.specs.Rivals.{AgainstRivals}
 use Rattle.edf.specs.Theorems.{unhelpful-stays}
 use Rattle.skeleton.specs.Theorems.{least-length}
 use Rattle.skeleton.specs.Waking.Cursor.{wokenFrom, triedFrom}

@@ -1,6 +1,6 @@
 -- A turn of the search and of step 3, with the books by rank.
 use Prim.Native.Nat.{ℕ, _+_, _-_, _≤_, _<_}
-use mathlib.Core.Path.{_≡_, refl, ap, sym, subst, _∙_}
+use mathlib.Core.Path.{_≡_, ap, sym, subst, _∙_}
 use mathlib.Core.Bool.{Bool, true, false, not, _&&_}
 use mathlib.Core.List.{List}
 use native.Mathlib.Omega.{arith}
@@ -14,17 +14,17 @@ use Rattle.sched.specs.Jobs.{Jobs, count, deadline}
 use Rattle.sched.specs.Slots.{awake, awakeOf, touches, wakeSlot}
 use Rattle.sched.specs.Slots.Laws.{awake-of}
 use Rattle.sched.specs.Steps.{helps, wakes}
-use Rattle.edf.specs.Chain.{jobAt, RankedJobs}
+use Rattle.edf.specs.Chain.{jobAt}
 use Rattle.edf.specs.Chain.Ahead.{ranks-differ}
 use Rattle.edf.specs.Chain.Keeping.{kept-long, kept-ends}
 use Rattle.edf.specs.Chain.Missing.{kept-set}
-use Rattle.edf.specs.Chain.Ranks.{RankBooks, tried}
+use Rattle.edf.specs.Chain.Ranks.{tried}
 use Rattle.edf.specs.Chain.Ranks.Start.{reach-in}
 use Rattle.edf.specs.Chain.Ranks.Theorems.{KeptByRank, rank-tests, rank-updates}
 use Rattle.skeleton.specs.Waking.Cursor.{cursorAfter}
 use Rattle.chain.specs.Notes.{Noteable}
-use Rattle.chain.specs.Books.{Booked, Tryable, attempt, Attempted}
-use Rattle.grow.specs.Turns.{Alone, Extending, Growing, EndBefore, Extended}
+use Rattle.chain.specs.Books.{Tryable, attempt, Attempted}
+use Rattle.grow.specs.Turns.{Alone, Growing, EndBefore, Extended}
 use Rattle.grow.proofs.Waking.{way-from, way-inside, way-pass, way-turn, way-end}
 
 module _ {J : Jobs} {from due order lost reach ends table : List ℕ} {short added cursor : ℕ}
@@ -146,9 +146,6 @@ module _ {J : Jobs} {from due order lost reach ends table : List ℕ} {short add
                 ∙ set-set (awakeOf table) cursor true false
                 ∙ ap (set (awakeOf table) cursor) (sym sleeps)
                 ∙ set-getD (awakeOf table) cursor false
-
-            pub growing-long : length table′ ≡ length table
-            growing-long = kept-long (updated .kept) ∙ sym table-long
 
             pub growing-turn : (after : ℕ) → after ≡ cursorAfter (set (awakeOf table′) cursor false) cursor →
                 Growing J (awakeOf table′) from due order lost′ reach′ ends′ table′ (short - 1) (added + 1) after

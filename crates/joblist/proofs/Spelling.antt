@@ -1,5 +1,5 @@
 -- The bytes of a list, stored one part after the other.
-use Prim.Native.Nat.{ℕ, suc, _+_, _-_, _≤_, _<_, _%_, _/_}
+use Prim.Native.Nat.{ℕ, suc, _+_, _≤_, _<_, _%_, _/_}
 use mathlib.Core.Path.{_≡_, refl, ap, _∙_, sym}
 use mathlib.Core.Bool.{Bool, true, false}
 use mathlib.Core.List.{List, [], _∷_, _++_}

@@ -10,7 +10,7 @@ use lib.Seq.{take-suc-set, take-all, drop-cons}
 use lib.Dec.{eqb}
 use Rattle.sched.specs.Jobs.{Jobs}
 use Rattle.sched.specs.Slots.{idle, asleep, awakeOf}
-use Rattle.skeleton.specs.Windows.{windowStart, windowEnd}
+use Rattle.skeleton.specs.Windows.{windowEnd}
 use Rattle.skeleton.specs.Windows.Laws.{window-within}
 use Rattle.skeleton.specs.Order.Laws.{order-behind}
 use Rattle.skeleton.specs.Runs.{endAfter, valueAt, values, Run, runsOf, spread}

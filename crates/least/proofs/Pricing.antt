@@ -1,8 +1,8 @@
 -- The pass from the last place to the first: one place more, and how large its numbers are.
-use Prim.Native.Nat.{ℕ, zero, suc, _+_, _-_, _*_, _≤_, _<_}
-use mathlib.Core.Path.{_≡_, refl, sym, ap, _∙_, subst}
-use mathlib.Core.Bool.{Bool, true, false}
-use mathlib.Core.List.{List, [], _∷_, map, List·Memᴰ as Among}
+use Prim.Native.Nat.{ℕ, suc, _+_, _-_, _≤_, _<_}
+use mathlib.Core.Path.{_≡_, sym, ap, _∙_, subst}
+use mathlib.Core.Bool.{Bool}
+use mathlib.Core.List.{List, [], _∷_, List·Memᴰ as Among}
 use native.Mathlib.Nat.{mul-le-mul-right}
 use native.Mathlib.Numerals.{add-one}
 use native.Mathlib.Decide.{ℕ-discrete}
@@ -13,7 +13,7 @@ use lib.Dec.{ltb}
 use borrow.Author.Tests.{ltb-true, ltb-false}
 use Rattle.sched.specs.Bounded.Laws.{by-bool}
 use Rattle.sched.specs.Jobs.{Jobs, count}
-use Rattle.skeleton.specs.Windows.{windowStart, windowEnd}
+use Rattle.skeleton.specs.Windows.{windowEnd}
 use Rattle.skeleton.specs.Windows.Laws.{window-opens, window-within}
 use Rattle.skeleton.specs.Order.Laws.{order-job, order-behind}
 use Rattle.skeleton.specs.Runs.{sleepCost, throughCost, runEnd, endAfter, valueAt, values}

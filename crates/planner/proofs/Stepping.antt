@@ -1,19 +1,18 @@
 -- From one step to the next.
 use Prim.Native.Nat.{ℕ, _≤_}
-use mathlib.Core.Path.{_≡_, refl, sym, ap, subst, _∙_}
+use mathlib.Core.Path.{_≡_, sym, ap, subst, _∙_}
 use mathlib.Core.Bool.{Bool}
 use mathlib.Core.List.{List, _++_}
-use mathlib.Core.Option.{Option, none}
+use mathlib.Core.Option.{Option}
 use native.Mathlib.Omega.{arith}
 use lib.ListN.{length, take, drop}
 use Rattle.sched.specs.Jobs.{Jobs, count}
 use Rattle.sched.specs.Checks.{Passes}
 use Rattle.sched.specs.Slots.{awakeOf}
 use Rattle.sched.specs.Energy.{tableFigures}
-use Rattle.sched.specs.Overload.{overloaded, shownOverload}
 use Rattle.sched.specs.Skeleton.{leastSkeleton}
 use Rattle.sched.specs.Workable.{workable}
-use Rattle.sched.specs.Steps.{woken, extended, tableOf}
+use Rattle.sched.specs.Steps.{extended, tableOf}
 use Rattle.sched.specs.Outcomes.{figuresOf}
 use Rattle.sched.specs.declared.Figures.{Figures}
 use Rattle.sched.specs.declared.PlanFigures.{PlanFigures}

@@ -1,10 +1,10 @@
 -- 01, "Plans worked by hand": the starred plans, in one table, and the one claim that the definitions give just these, so that a wrong edit
 -- of a definition is refused here. What 01 does not name (some skeletons, orders and tables) was computed by a separate search.
-use Prim.Native.Nat.{ℕ, zero, suc}
+use Prim.Native.Nat.{ℕ, suc}
 use mathlib.Core.Path.{_≡_, refl}
 use mathlib.Core.Bool.{Bool, true, false}
 use mathlib.Core.List.{List, [], _∷_, map}
-use lib.ListN.{length, replicate}
+use lib.ListN.{replicate}
 use Rattle.sched.specs.Bounded.{total, anyBelow, allBelow, sumBelow, maxBelow, leastFrom, lastBelow, keep, firstLeast}
 use Rattle.sched.specs.Jobs.{Jobs, jobsOf}
 use Rattle.sched.specs.Checks.{checkFrom}

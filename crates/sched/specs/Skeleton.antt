@@ -1,6 +1,6 @@
 -- 01, "Words of the plan" and step 2 (000, section 2: skeletons): which sets are skeletons, and the least one.
 use Prim.Native.Nat.{ℕ, suc}
-use mathlib.Core.Bool.{Bool, true, false, _&&_}
+use mathlib.Core.Bool.{Bool, _&&_}
 use mathlib.Core.List.{List, [], _∷_}
 use lib.Dec.{leb}
 use Rattle.sched.specs.Bounded.{anyBelow, allBelow, keep, firstLeast}

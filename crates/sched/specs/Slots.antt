@@ -1,5 +1,5 @@
 -- 01, "Words of the plan": sets of slots and slot tables. A set is a list with a Bool a slot, true for awake; a table has a byte a slot.
-use Prim.Native.Nat.{ℕ, zero, suc, _+_}
+use Prim.Native.Nat.{ℕ, zero, suc}
 use mathlib.Core.Bool.{Bool, true, false, not, _||_}
 use mathlib.Core.List.{List, [], _∷_, map, _++_}
 use lib.ListN.{getD, set}

@@ -1,6 +1,6 @@
 -- The literal definition of the least skeleton goes through all sets in order of precedence and keeps the first of least energy.
 -- Here: a set that costs at most as much as any other and precedes its equals is the one that is found.
-use Prim.Native.Nat.{ℕ, zero, suc, _≤_, _<_}
+use Prim.Native.Nat.{ℕ, zero, suc, _≤_}
 use mathlib.Core.Path.{_≡_, refl, sym, ap, _∙_}
 use mathlib.Core.Bool.{Bool, true, false}
 use mathlib.Core.List.{List, [], _∷_, _++_, map, List·Memᴰ as Among, List·Memᴰ·head as here, List·Memᴰ·tail as there, List·Memᴰ·cases-cons as apart, List·Memᴰ·not-nil as nowhere, List·Memᴰ·append-cases as sides, Memᴰ·append-left as in-left, Memᴰ·append-right as in-right}
@@ -10,7 +10,7 @@ use lib.ListN.{length}
 use lib.Dec.{leb}
 use borrow.Author.Tests.{leb-true, le-leb}
 use Rattle.sched.specs.Bounded.{keep, firstLeast}
-use Rattle.sched.specs.Bounded.Laws.{by-bool, true-not-false}
+use Rattle.sched.specs.Bounded.Laws.{by-bool}
 use Rattle.sched.specs.Jobs.{Jobs}
 use Rattle.sched.specs.Slots.{allSets}
 use Rattle.sched.specs.Energy.{energy}

@@ -1,5 +1,5 @@
 -- 01, step 2: of two sets, the one that "at the first slot where two differ, is asleep" comes first; and what step 2 asks of a set.
-use Prim.Native.Nat.{ℕ, _≤_}
+use Prim.Native.Nat.{_≤_}
 use mathlib.Core.Path.{_≡_}
 use mathlib.Core.Bool.{Bool, true, false}
 use mathlib.Core.List.{List, [], _∷_}

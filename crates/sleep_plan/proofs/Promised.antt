@@ -17,7 +17,7 @@ use Rattle.sched.specs.Checks.Laws.{refused-not-passed}
 use Rattle.sleep_plan.specs.Block.{blockLength, answered, numberIn}
 use Rattle.sleep_plan.specs.Block.Laws.{one-number}
 use Rattle.sleep_plan.specs.Puts.{Puts, PutsOutcome}
-use Rattle.sleep_plan.specs.Entry.{Answer, bytesCheck, Entry, inBlock, entry}
+use Rattle.sleep_plan.specs.Entry.{Answer, bytesCheck, Entry, inBlock}
 use Rattle.sleep_plan.specs.Entry.Places.{Within, read-within}
 use Rattle.joblist.specs.Bytes.{spelling}
 use Rattle.joblist.specs.Laws.Fields.{AreBytes}

@@ -1,6 +1,6 @@
 -- `grow::grow` meets its contract. While volume is short, some slot can be woken, and none before the cursor: so the search ends inside
 -- the table, at the slot that step 3 wakes next.
-use Rattle.grow.proofs.Growing.{Grown, growing-from, growing-inside, growing-small, growing-tryable, growing-pass, growing-vain, growing-long, growing-turn, growing-end, grown-notes}
+use Rattle.grow.proofs.Growing.{Grown, growing-from, growing-inside, growing-small, growing-tryable, growing-pass, growing-vain, growing-turn, growing-end, grown-notes}
 use Rattle.sched.specs.Jobs.{jobsOf}
 use mathlib.Core.Path.{refl, _∙_}
 use lib.ListN.{length}

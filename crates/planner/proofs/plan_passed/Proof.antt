@@ -1,12 +1,9 @@
 -- `planner::plan_passed` meets its contract: a short table is refused, and else the jobs are put in their orders.
-use Prim.Native.Nat.{ℕ}
-use mathlib.Core.Path.{sym, subst}
 use mathlib.Core.List.{List}
 use denote.Ref.{now}
 use Rattle.sched.specs.Jobs.{jobsOf}
 use Rattle.sched.specs.Checks.Laws.{passes-passed}
 use Rattle.ranking.specs.Fronts.{blank, front-length, filled-fits, filled-front-length}
-use Rattle.ranking.specs.Order.{Orders}
 use Rattle.planner.specs.Promises.Laws.{short-refused}
 use Rattle.planner.proofs.Stepping.{places, fronts-ordered}
 use borrow.Author.Needs.{needs}

@@ -2,7 +2,7 @@ use Rattle.sched.proofs.Laws.{check-next, check-stop, check-end}
 use Rattle.sched.specs.Checks.{jobsCheck, checkFrom}
 use native.Mathlib.Nat.{sub-zero}
 use lib.ListN.{length}
-use mathlib.Core.Path.{_≡_, refl, sym, ap, _∙_}
+use mathlib.Core.Path.{_≡_, sym, _∙_}
 use Prim.Native.Nat.{_≤_, _-_}
 use borrow.Author.Needs.{needs}
 use Rattle.sched.proofs.check_jobs.Statement.{statement}

@@ -1,16 +1,15 @@
 -- A list passes the checks in their order exactly when it passes the list checks of 01.
 use Prim.Native.Nat.{ℕ, zero, suc, _+_, _≤_, _<_}
-use mathlib.Core.Path.{_≡_, refl, sym, ap, _∙_}
+use mathlib.Core.Path.{_≡_, refl}
 use mathlib.Core.Bool.{Bool, true, false, not}
 use mathlib.Core.List.{List}
 use mathlib.Core.Logic.{_↔_}
 use native.Mathlib.Decide.{ℕ-discrete}
 use native.Mathlib.Omega.{arith}
-use borrow.Author.Tests.{le-leb, lt-leb, lt-ltb, le-ltb, eq-eqb, ne-eqb, leb-false, ltb-false, eqb-true, eqb-false, not-false}
+use borrow.Author.Tests.{lt-leb, le-ltb, eq-eqb, ne-eqb, leb-false, ltb-false, eqb-true, eqb-false, not-false}
 use lib.ListN.{length, getD}
 use lib.Dec.{leb, ltb, eqb}
-use Rattle.sched.specs.Bounded.Laws.{lt-suc}
-use Rattle.sched.specs.Jobs.{Jobs, count, release, deadline, volume}
+use Rattle.sched.specs.Jobs.{Jobs, count}
 use Rattle.sched.specs.Checks.{GoodJob, Passes, unless, andThen, jobCheck, checkFrom, jobsCheck, listCheck}
 use Rattle.sched.specs.declared.Refusal.{Refusal}
 use Rattle.sched.specs.declared.Refusal.the-variants.{OutOfRange, BadJob, Unequal}

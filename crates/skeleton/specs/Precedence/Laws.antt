@@ -1,11 +1,10 @@
 -- Two sets that precede each other are the same, and what precedence says of the first slot where two differ.
 use Prim.Native.Nat.{ℕ, zero, suc, _<_}
-use mathlib.Core.Path.{_≡_, refl, sym, ap}
+use mathlib.Core.Path.{_≡_, refl, ap}
 use mathlib.Core.Bool.{Bool, true, false}
 use mathlib.Core.List.{List, [], _∷_}
 use mathlib.Core.Logic.{_≢_}
 use native.Mathlib.Omega.{arith}
-use lib.ListN.{length, getD}
 use Rattle.sched.specs.Slots.{awake}
 use Rattle.sched.specs.Bounded.Laws.{true-not-false}
 use Rattle.skeleton.specs.Precedence.{Precedes}

@@ -1,15 +1,13 @@
 -- The cost of a set, the recursion and the built set, each by its first slot.
-use Prim.Native.Nat.{ℕ, zero, suc, _+_, _*_, _≤_, _<_, min}
-use mathlib.Core.Path.{_≡_, refl, sym, ap, _∙_}
-use mathlib.Core.Bool.{Bool, true, false, _&&_, _||_}
+use Prim.Native.Nat.{ℕ, zero, suc, _+_, _≤_, _<_, min}
+use mathlib.Core.Path.{_≡_, refl}
+use mathlib.Core.Bool.{Bool, true, false}
 use mathlib.Core.List.{List, [], _∷_}
 use native.Mathlib.Nat.{mul-suc, mul-zero}
 use native.Mathlib.Omega.{arith}
-use lib.ListN.{length}
-use lib.Dec.{ltb}
 use borrow.Author.Tests.{lt-ltb, le-ltb}
 use Rattle.sched.specs.Energy.{awakeSlots, runsFrom}
-use Rattle.skeleton.specs.Recursion.{cost, Allowed, least, wakesAt, built}
+use Rattle.skeleton.specs.Recursion.{cost, least, wakesAt, built}
 
 -- the cost of a set by its first slot
 

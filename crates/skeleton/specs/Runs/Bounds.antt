@@ -1,6 +1,5 @@
 -- How large the numbers get, for code that keeps them in 32 bits.
-use Prim.Native.Nat.{ℕ, zero, suc, _+_, _*_, _-_, _≤_, _<_}
-use mathlib.Core.Path.{_≡_, refl}
+use Prim.Native.Nat.{ℕ, zero, suc, _+_, _*_, _≤_, _<_}
 use mathlib.Core.List.{List, [], _∷_, List·Memᴰ as Among, List·Memᴰ·tail as there}
 use native.Mathlib.Nat.{suc-mul}
 use native.Mathlib.Decide.{decLe}

@@ -1,23 +1,22 @@
 -- The runs are those of the built set.
-use Prim.Native.Nat.{ℕ, suc, _-_, _≤_, _<_}
+use Prim.Native.Nat.{ℕ, suc, _-_, _≤_}
 use mathlib.Core.Path.{_≡_, refl, sym, ap, _∙_}
 use mathlib.Core.Bool.{Bool, true, false}
-use mathlib.Core.List.{List, [], _∷_, _++_, append-nil, List·Memᴰ as Among, List·Memᴰ·head as here}
+use mathlib.Core.List.{List, [], _∷_, _++_, append-nil, List·Memᴰ·head as here}
 use native.Mathlib.Decide.{decLe}
 use native.Mathlib.Omega.{arith}
 use lib.ListN.{length, replicate}
-use borrow.Author.Tests.{le-leb, lt-leb}
-use Rattle.sched.specs.Jobs.{Jobs, count}
+use Rattle.sched.specs.Jobs.{Jobs}
 use Rattle.sched.specs.Checks.{Passes}
 use Rattle.skeleton.specs.Recursion.{built}
 use Rattle.skeleton.specs.Windows.{windowStart, windowEnd, due}
 use Rattle.skeleton.specs.Windows.Laws.{window-opens, window-within}
 use Rattle.skeleton.specs.Order.Laws.{Rest, rest-next}
-use Rattle.skeleton.specs.Runs.{sleepCost, runEnd, endAfter, values, runsOf, spread}
+use Rattle.skeleton.specs.Runs.{runEnd, endAfter, values, runsOf, spread}
 use Rattle.skeleton.specs.Runs.Clauses.{values-first, runs-none, runs-begin, runs-skip, spread-none, spread-run}
 use Rattle.skeleton.specs.Runs.Until.{Until, until-built, built-waits, built-wakes, built-nothing}
 use Rattle.skeleton.specs.Runs.Choice.{run-end-from}
-use Rattle.skeleton.specs.Runs.Values.{Holds, holds-later, holds-skips, holds-behind, none-due, never-due, first-due, run-end-inside, run-end-right}
+use Rattle.skeleton.specs.Runs.Values.{Holds, holds-skips, holds-behind, none-due, never-due, first-due, run-end-inside, run-end-right}
 
 pub runs-few : (J : Jobs) (s : ℕ) (js vs : List ℕ) → length (runsOf J s js vs) ≤ length js
 unfolding runsOf

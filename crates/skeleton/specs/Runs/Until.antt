@@ -1,12 +1,12 @@
 -- Where a run is best ended: the least slot at which what was paid so far and what follows are least together.
 use Prim.Native.Nat.{ℕ, zero, suc, _+_, _-_, _≤_, _<_, min}
-use mathlib.Core.Path.{_≡_, refl, sym, ap, _∙_}
+use mathlib.Core.Path.{_≡_, sym, ap, _∙_}
 use mathlib.Core.Bool.{Bool, true, false}
 use mathlib.Core.List.{List, [], _∷_, _++_}
 use native.Mathlib.Nat.{sub-self}
 use native.Mathlib.Decide.{decLe}
 use native.Mathlib.Omega.{arith}
-use lib.ListN.{length, replicate}
+use lib.ListN.{replicate}
 use Rattle.sched.specs.Bounded.Laws.{by-bool}
 use Rattle.skeleton.specs.Recursion.{least, built}
 use Rattle.skeleton.specs.Recursion.Clauses.{least-end, least-due, least-sleeps, least-awake, least-true-le, built-end, built-due, built-sleeps, built-goes-on, built-ends}

@@ -1,14 +1,14 @@
 -- The skeletons of a list are the sets that the recursion allows.
-use Prim.Native.Nat.{ℕ, zero, suc, _+_, _-_, _≤_, _<_, min}
-use mathlib.Core.Path.{_≡_, refl, sym, ap, _∙_}
+use Prim.Native.Nat.{ℕ, zero, suc, _+_, _≤_, _<_}
+use mathlib.Core.Path.{_≡_, refl}
 use mathlib.Core.Bool.{Bool, true, false, _&&_}
 use mathlib.Core.List.{List, [], _∷_}
-use native.Mathlib.Decide.{decLe, decLt}
+use native.Mathlib.Decide.{decLe}
 use native.Mathlib.Omega.{arith}
-use lib.ListN.{length, getD}
+use lib.ListN.{length}
 use lib.Dec.{leb, eqb}
 use borrow.Author.Tests.{le-leb, leb-true, eq-eqb, eqb-true}
-use Rattle.sched.specs.Bounded.{anyBelow, allBelow}
+use Rattle.sched.specs.Bounded.{anyBelow}
 use Rattle.sched.specs.Bounded.Laws.{by-bool, true-not-false, and-true, any-intro, any-elim, all-intro, all-elim}
 use Rattle.sched.specs.Jobs.{Jobs, count, release, deadline}
 use Rattle.sched.specs.Checks.{Passes}

@@ -14,7 +14,7 @@ use Rattle.sched.specs.Slots.{awake}
 use Rattle.edf.specs.Run.{spans}
 use Rattle.edf.specs.Chain.{jobAt, RankedJobs, Kept}
 use Rattle.edf.specs.Chain.Served.{served-first}
-use Rattle.edf.specs.Chain.Keeping.{kept-long, kept-ends, kept-last}
+use Rattle.edf.specs.Chain.Keeping.{kept-long, kept-last}
 use Rattle.edf.specs.Chain.Ranks.{ByRank}
 
 -- the reach of a job with these lost units, end and deadline

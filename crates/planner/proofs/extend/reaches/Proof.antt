@@ -2,7 +2,6 @@
 use Rattle.planner.proofs.Gathering.{Reaching, reaching-start, reaching-turn, reaching-end}
 use Prim.Native.Nat.{_-_}
 use mathlib.Core.Path.{refl}
-use native.Mathlib.Omega.{arith}
 use borrow.Author.Needs.{needs}
 use Rattle.planner.proofs.extend.reaches.Statement.{statement}
 use Rattle.planner.proofs.extend.reaches.Tie as tie
