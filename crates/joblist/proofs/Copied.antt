@@ -1,18 +1,12 @@
--- The first numbers of one list, copied to another; and the three lists once what was read is copied to them.
-use Prim.Native.Nat.{ℕ, _+_, _<_}
+-- The three lists once what was read is copied to them.
+use Prim.Native.Nat.{ℕ}
 use mathlib.Core.Path.{_≡_, refl, sym, ap, _∙_}
 use mathlib.Core.List.{List, _++_}
-use native.Mathlib.Nat.{zero-add}
-use native.Mathlib.Numerals.{add-one}
-use lib.ListN.{length, getD, take, drop, set}
-use lib.Seq.{paste-suc}
+use lib.ListN.{take, drop}
 use Rattle.sched.specs.declared.Refusal.{Refusal}
 use Rattle.sched.specs.declared.Checked.{Checked}
 use Rattle.sched.specs.declared.Checked.the-variants.{Passed, Refused}
 use Rattle.joblist.specs.Helpers.{Walked, Filled}
-
-pub copied-turn : (source to₀ to : List ℕ) (i : ℕ) → i < length source → i < length to₀ → to ≡ take i source ++ drop i to₀ → set to i (getD source i 0) ≡ take (i + 1) source ++ drop (i + 1) to₀
-copied-turn source to₀ to i l m e = rw (e, add-one) (simp zero-add at (paste-suc to₀ 0 source i 0 (simp zero-add m) l))
 
 module _ {h count : ℕ} {bytes rs ds ps xs ys zs : List ℕ} {answer : Checked} (w : Walked h count bytes answer xs ys zs) where
   pub fill-passed : {rs′ ds′ ps′ : List ℕ} → answer ≡ Passed → rs′ ≡ take count xs ++ drop count rs → ds′ ≡ take count ys ++ drop count ds → ps′ ≡ take count zs ++ drop count ps → Filled h count bytes rs ds ps Passed rs′ ds′ ps′

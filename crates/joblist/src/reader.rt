@@ -1,8 +1,7 @@
 // The checks of a list's bytes, and the jobs in them.
 ghost use mathlib.Core.Path.{_≡_};
-ghost use mathlib.Core.List.{_++_};
 ghost use Prim.Native.Nat.{_≤_};
-ghost use lib.ListN.{length, take, drop};
+ghost use lib.ListN.{length};
 ghost use Rattle.joblist.specs.Bytes.{headerLength};
 ghost use Rattle.joblist.specs.Reading.{headerCheck, lentCheck};
 ghost use Rattle.joblist.specs.Helpers.{HeaderOf, frontCheck, Fillable, Walked, Filled};
@@ -108,18 +107,6 @@ fn walk(
     Checked::Passed
 }
 
-// The first n entries of one list into another.
-fn copy(n: usize, from: &[u16], to: &mut [u16])
-    requires { ⌜ (n ≤ length (now from)) × (n ≤ length (now to)) ⌝ }
-    ensures { λ _. ⌜ now (to .exit) ≡ take n (now (from .entry)) ++ drop n (now (to .entry)) ⌝ }
-{
-    let mut i = 0;
-    while i < n {
-        to[i] = from[i];
-        i += 1;
-    }
-}
-
 // Reads the entries behind the header into the three lists. They are read to arrays first, so that a refusal leaves the lists as they are.
 pub fn fill(
     h: u16,
@@ -137,9 +124,9 @@ pub fn fill(
     let mut third = [0u16; 64];
     match walk(h, count, bytes, &mut first, &mut second, &mut third) {
         Checked::Passed => {
-            copy(count, &first, releases);
-            copy(count, &second, deadlines);
-            copy(count, &third, volumes);
+            sched::copy(count, &first, releases);
+            sched::copy(count, &second, deadlines);
+            sched::copy(count, &third, volumes);
             Checked::Passed
         }
         Checked::Refused(r) => Checked::Refused(r),

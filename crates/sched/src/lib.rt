@@ -1,8 +1,9 @@
-// The words of the plan that every other crate shares: refusals, figures, and the list checks.
+// What the other crates share: the words of the plan, refusals and figures among them, the list checks, and a copy.
 ghost use mathlib.Core.Path.{_≡_};
+ghost use mathlib.Core.List.{_++_};
 ghost use Rattle.sched.specs.Refusals.{number, place};
 ghost use Prim.Native.Nat.{_≤_};
-ghost use lib.ListN.{length};
+ghost use lib.ListN.{length, take, drop};
 ghost use Rattle.sched.specs.Jobs.{Jobs};
 ghost use Rattle.sched.specs.Energy.{tableFigures};
 ghost use Rattle.sched.specs.Checks.{jobCheck, jobsCheck, listCheck};
@@ -193,5 +194,17 @@ pub fn cost_of(q: u16, table: &[u8]) -> Figures
         energy: awake + (q as u32) * runs,
         awake,
         runs,
+    }
+}
+
+// The first n entries of one list into another.
+pub fn copy(n: usize, from: &[u16], to: &mut [u16])
+    requires { ⌜ (n ≤ length (now from)) × (n ≤ length (now to)) ⌝ }
+    ensures { λ _. ⌜ now (to .exit) ≡ take n (now (from .entry)) ++ drop n (now (to .entry)) ⌝ }
+{
+    let mut i = 0;
+    while i < n {
+        to[i] = from[i];
+        i += 1;
     }
 }

@@ -6,7 +6,7 @@ use mathlib.Core.List.{List, [], _∷_, _++_}
 use native.Mathlib.Numerals.{add-one}
 use native.Mathlib.Omega.{arith}
 use lib.ListN.{length, getD, take, drop, set, replicate, length-append, length-drop, length-replicate}
-use lib.Seq.{getD-drop, take-all, take-suc, drop-cons, set-at, append-snoc, length-take-le}
+use lib.Seq.{getD-drop, take-length}
 use Rattle.sched.specs.Jobs.{Jobs, volume, totalVolume}
 use Rattle.sched.specs.Checks.{Passes}
 use Rattle.sched.specs.Slots.{awake, awakeOf}
@@ -21,21 +21,6 @@ use Rattle.sched.specs.Slots.Laws.{awake-of-length}
 use Rattle.serving.specs.Ranks.Laws.{ranks-of}
 use Rattle.serving.specs.Runs.{Units, Fillable, Runnable, RunDone}
 
--- one number more is copied
-pub copied-turn : (source to₀ to : List ℕ) (i : ℕ) → i < length source → length source ≤ length to₀ → to ≡ take i source ++ drop i to₀ → set to i (getD source i 0) ≡ take (i + 1) source ++ drop (i + 1) to₀
-copied-turn source to₀ to i l m e =
-    let x = getD source i 0 in
-    ap (λ (z : List ℕ). set z i x) (e ∙ ap (λ (z : List ℕ). take i source ++ z) (drop-cons to₀ i 0 (omega arith)))
-    ∙ set-at (take i source) (getD to₀ i 0) (drop (suc i) to₀) x i (length-take-le i source (omega arith))
-    ∙ sym (append-snoc (take i source) x (drop (suc i) to₀))
-    ∙ ap (λ (z : List ℕ). z ++ drop (suc i) to₀) (sym (take-suc source i 0 l))
-    ∙ ap (λ (n : ℕ). take n source ++ drop n to₀) (sym (add-one i))
-
-pub copied-end : (source to₀ to : List ℕ) (i : ℕ) → i ≤ length source → length source ≤ i → to ≡ take i source ++ drop i to₀ → to ≡ source ++ drop (length source) to₀
-copied-end source to₀ to i l m e =
-    let n : i ≡ length source = omega arith in
-    e ∙ ap (λ (z : List ℕ). z ++ drop i to₀) (take-all i source m) ∙ ap (λ (k : ℕ). source ++ drop k to₀) n
-
 zeros : (n i : ℕ) → _≡_ {A = ℕ} (getD (replicate n 0) i 0) 0
 zeros zero i = refl
 zeros (suc n) zero = refl
@@ -47,11 +32,13 @@ padded (x ∷ l) z h zero = refl
 padded (x ∷ l) z h (suc j) = padded l z h j
 
 -- the volumes, copied to an array of zeros
-pub units-are : (volumes units : List ℕ) → length volumes ≤ 64 → units ≡ volumes ++ drop (length volumes) (replicate 64 0) → Units volumes units
-units-are volumes units few e = record {
-  long = ap length e ∙ simp (length-append, length-drop, length-replicate) (omega arith);
-  same = ap stateOf e ∙ fun-ext (λ j. padded volumes (drop (length volumes) (replicate 64 0)) (λ i. getD-drop (length volumes) (replicate 64 0) i 0 ∙ zeros 64 (length volumes + i)) j);
-}
+pub units-are : (volumes units : List ℕ) → length volumes ≤ 64 → units ≡ take (length volumes) volumes ++ drop (length volumes) (replicate 64 0) → Units volumes units
+units-are volumes units few copied =
+    let e : units ≡ volumes ++ drop (length volumes) (replicate 64 0) = copied ∙ ap (λ (l : List ℕ). l ++ drop (length volumes) (replicate 64 0)) (take-length volumes) in
+    record {
+      long = ap length e ∙ simp (length-append, length-drop, length-replicate) (omega arith);
+      same = ap stateOf e ∙ fun-ext (λ j. padded volumes (drop (length volumes) (replicate 64 0)) (λ i. getD-drop (length volumes) (replicate 64 0) i 0 ∙ zeros 64 (length volumes + i)) j);
+    }
 
 -- where all volume is worked, the table of step 4 is that of the run
 pub table-is-run : (J : Jobs) (S : List Bool) → Passes J → length S ≡ J .horizon → workable J S ≡ totalVolume J → bytes (spans J) (awake S) (J .horizon) 0 (volume J) ≡ tableOf J S

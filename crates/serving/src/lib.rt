@@ -3,8 +3,7 @@
 ghost use mathlib.Core.Path.{_≡_};
 ghost use mathlib.Core.Bool.{_&&_};
 ghost use Prim.Native.Nat.{_*_, _/_, _^_, _≤_, _<_};
-ghost use mathlib.Core.List.{_++_};
-ghost use lib.ListN.{length, drop};
+ghost use lib.ListN.{length};
 ghost use lib.Dec.{leb, ltb};
 ghost use Rattle.sched.specs.Slots.{awakeOf};
 ghost use Rattle.sched.specs.Steps.{tableOf};
@@ -263,24 +262,13 @@ pub fn run(
     }
 }
 
-fn copy(from: &[u16], to: &mut [u16])
-    requires { ⌜ length (now from) ≤ length (now to) ⌝ }
-    ensures { λ r. ⌜ now (to .exit) ≡ now (from .entry) ++ drop (length (now (from .entry))) (now (to .entry)) ⌝ }
-{
-    let mut i = 0;
-    while i < from.len() {
-        to[i] = from[i];
-        i += 1;
-    }
-}
-
 // The units of each job before slot 0.
 pub fn units(volumes: &[u16]) -> [u16; 64]
     requires { ⌜ length (now volumes) ≤ 64 ⌝ }
     ensures { λ r. ⌜ Units (now (volumes .entry)) r ⌝ }
 {
     let mut left = [0u16; 64];
-    copy(volumes, &mut left);
+    sched::copy(volumes.len(), volumes, &mut left);
     left
 }
 

@@ -1,13 +1,13 @@
--- `reader::copy` meets its contract: the first i numbers are those of the source, the rest as they were.
+-- `sched::copy` meets its contract: the first i numbers are those of the source, the rest as they were.
 use Prim.Native.Nat.{_-_, _≤_}
 use mathlib.Core.Path.{_≡_, refl}
 use mathlib.Core.List.{_++_}
 use native.Mathlib.Omega.{arith}
 use borrow.Author.Needs.{needs}
 use lib.ListN.{length, take, drop, length-set}
-use Rattle.joblist.proofs.Copied.{copied-turn}
-use Rattle.joblist.proofs.reader.copy.Statement.{statement}
-use Rattle.joblist.proofs.reader.copy.Tie as tie
+use Rattle.sched.proofs.Copied.{copied-turn}
+use Rattle.sched.proofs.copy.Statement.{statement}
+use Rattle.sched.proofs.copy.Tie as tie
 
 abbrev Inv-loop : tie.InvT-loop
 Inv-loop n from to₀ i₀ to i = (i ≤ n) × (length to ≡ length to₀) × (to ≡ take i from ++ drop i to₀)
