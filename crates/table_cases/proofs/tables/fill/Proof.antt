@@ -1,16 +1,16 @@
--- `table_cases::alternate` is safe and ends: the table keeps its length.
+-- `tables::fill` is safe and ends: the table keeps its length.
 use Prim.Native.Nat.{_-_}
 use mathlib.Core.Path.{_≡_}
 use borrow.Author.Needs.{needs}
 use lib.ListN.{length}
-use Rattle.table_cases.proofs.alternate.Statement.{statement}
-use Rattle.table_cases.proofs.alternate.Tie as tie
+use Rattle.table_cases.proofs.tables.fill.Statement.{statement}
+use Rattle.table_cases.proofs.tables.fill.Tie as tie
 
 abbrev Inv-loop : tie.InvT-loop
-Inv-loop t₀ i₀ t i = length t ≡ length t₀
+Inv-loop t₀ byte i₀ t i = length t ≡ length t₀
 
 abbrev μ-loop : tie.MeasureT-loop
-μ-loop t₀ i₀ t i = length t₀ - i
+μ-loop t₀ byte i₀ t i = length t₀ - i
 
 loop-holds : tie.Need-loop-holds Inv-loop μ-loop
 loop-holds c = search needs
@@ -27,26 +27,14 @@ loop-less c = search needs
 loop-again : tie.Need-loop-again Inv-loop μ-loop
 loop-again c = search needs
 
-slice-write-t-2 : tie.Need-slice-write-t-2 Inv-loop μ-loop
-slice-write-t-2 c = search needs
-
-add-i-2 : tie.Need-add-i-2 Inv-loop μ-loop
-add-i-2 c = search needs
-
-loop-less-2 : tie.Need-loop-less-2 Inv-loop μ-loop
-loop-less-2 c = search needs
-
-loop-again-2 : tie.Need-loop-again-2 Inv-loop μ-loop
-loop-again-2 c = search needs
-
 same-length : tie.Need-same-length Inv-loop μ-loop
 same-length c = search needs
 
 returns : tie.Need-returns Inv-loop μ-loop
 returns c = search needs
 
-pub alternate-spec : {M : Type 1} → statement M
-alternate-spec =
+pub fill-spec : {M : Type 1} → statement M
+fill-spec =
     tie.close
     (tie.spec
     Inv-loop
@@ -56,9 +44,5 @@ alternate-spec =
     add-i
     loop-less
     loop-again
-    slice-write-t-2
-    add-i-2
-    loop-less-2
-    loop-again-2
     same-length
     returns)

@@ -1,10 +1,10 @@
--- `table_cases::digest` is safe and ends: the sum stays below its modulus.
+-- `show::digest` is safe and ends: the sum stays below its modulus.
 use Prim.Native.Nat.{_-_, _<_}
 use borrow.Author.Needs.{needs}
 use native.Mathlib.Omega.{arith}
 use lib.ListN.{length}
-use Rattle.table_cases.proofs.digest.Statement.{statement}
-use Rattle.table_cases.proofs.digest.Tie as tie
+use Rattle.table_cases.proofs.show.digest.Statement.{statement}
+use Rattle.table_cases.proofs.show.digest.Tie as tie
 
 abbrev Inv-loop : tie.InvT-loop
 Inv-loop out sum₀ i₀ sum i = sum < 1000003

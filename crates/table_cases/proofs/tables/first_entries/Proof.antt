@@ -1,9 +1,9 @@
--- `table_cases::first_entries` is safe: the part is as long as its end says.
+-- `tables::first_entries` is safe: the part is as long as its end says.
 use mathlib.Core.Path.{sym}
 use lib.Seq.{length-take-le}
 use borrow.Author.Needs.{needs}
-use Rattle.table_cases.proofs.first_entries.Statement.{statement}
-use Rattle.table_cases.proofs.first_entries.Tie as tie
+use Rattle.table_cases.proofs.tables.first_entries.Statement.{statement}
+use Rattle.table_cases.proofs.tables.first_entries.Tie as tie
 
 slice-aggregate-result : tie.Need-slice-aggregate-result
 slice-aggregate-result c = sym (length-take-le _ _ (c .before .if1 .taken))

@@ -1,22 +1,25 @@
--- `table_cases::fill` is safe and ends: the table keeps its length.
+-- `tables::count_up` is safe and ends: the table keeps its length.
 use Prim.Native.Nat.{_-_}
 use mathlib.Core.Path.{_≡_}
 use borrow.Author.Needs.{needs}
 use lib.ListN.{length}
-use Rattle.table_cases.proofs.fill.Statement.{statement}
-use Rattle.table_cases.proofs.fill.Tie as tie
+use Rattle.table_cases.proofs.tables.count_up.Statement.{statement}
+use Rattle.table_cases.proofs.tables.count_up.Tie as tie
 
 abbrev Inv-loop : tie.InvT-loop
-Inv-loop t₀ byte i₀ t i = length t ≡ length t₀
+Inv-loop t₀ n i₀ t i = length t ≡ length t₀
 
 abbrev μ-loop : tie.MeasureT-loop
-μ-loop t₀ byte i₀ t i = length t₀ - i
+μ-loop t₀ n i₀ t i = n - i
 
 loop-holds : tie.Need-loop-holds Inv-loop μ-loop
 loop-holds c = search needs
 
-slice-write-t : tie.Need-slice-write-t Inv-loop μ-loop
-slice-write-t c = search needs
+cast-put : tie.Need-cast-put Inv-loop μ-loop
+cast-put c = search needs
+
+put-requires : tie.Need-put-requires Inv-loop μ-loop
+put-requires c κs = search needs
 
 add-i : tie.Need-add-i Inv-loop μ-loop
 add-i c = search needs
@@ -33,14 +36,15 @@ same-length c = search needs
 returns : tie.Need-returns Inv-loop μ-loop
 returns c = search needs
 
-pub fill-spec : {M : Type 1} → statement M
-fill-spec =
+pub count-up-spec : {M : Type 1} → statement M
+count-up-spec =
     tie.close
     (tie.spec
     Inv-loop
     μ-loop
     loop-holds
-    slice-write-t
+    cast-put
+    put-requires
     add-i
     loop-less
     loop-again

@@ -1,10 +1,10 @@
--- `table_cases::show_bytes` is safe and ends.
+-- `show::bytes` is safe and ends.
 use Prim.Native.Nat.{_-_}
 use borrow.Author.Needs.{needs}
 use native.Mathlib.Omega.{arith}
 use lib.ListN.{length}
-use Rattle.table_cases.proofs.show_bytes.Statement.{statement}
-use Rattle.table_cases.proofs.show_bytes.Tie as tie
+use Rattle.table_cases.proofs.show.bytes.Statement.{statement}
+use Rattle.table_cases.proofs.show.bytes.Tie as tie
 
 abbrev Inv-loop : tie.InvT-loop
 Inv-loop out i₀ i = Unit {0}
@@ -39,8 +39,8 @@ end-line-requires c κs = search needs
 returns : tie.Need-returns Inv-loop μ-loop
 returns c = search needs
 
-pub show-bytes-spec : {M : Type 1} → statement M
-show-bytes-spec =
+pub bytes-spec : {M : Type 1} → statement M
+bytes-spec =
     tie.close
     (tie.spec
     Inv-loop

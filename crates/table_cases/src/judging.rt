@@ -1,0 +1,244 @@
+// The judge on its refusals, each at its first and last place.
+use super::show;
+use super::tables;
+
+pub struct Job {
+    pub r: u16,
+    pub d: u16,
+    pub p: u16,
+}
+
+// Judges the first len bytes of t against n equal jobs, but for job k.
+fn jobs(h: u16, q: u16, n: usize, job: Job, k: usize, other: Job, t: &[u8], len: usize) {
+    let rs = tables::field(job.r, k, other.r);
+    let ds = tables::field(job.d, k, other.d);
+    let ps = tables::field(job.p, k, other.p);
+    show::judged(judge::judge(
+        h,
+        q,
+        tables::first_entries(&rs, n),
+        tables::first_entries(&ds, n),
+        tables::first_entries(&ps, n),
+        tables::first_bytes(t, len),
+    ));
+}
+
+// Judges t against n equal jobs.
+pub fn equal(h: u16, q: u16, n: usize, job: Job, t: &[u8], len: usize) {
+    jobs(h, q, n, job, 65, job, t, len);
+}
+
+// Judges t against three lists of a jobs, b jobs and c jobs.
+fn lengths(a: usize, b: usize, c: usize, t: &[u8]) {
+    let rs = [0u16; 65];
+    let ds = [10u16; 65];
+    let ps = [1u16; 65];
+    show::judged(judge::judge(
+        10,
+        1,
+        tables::first_entries(&rs, a),
+        tables::first_entries(&ds, b),
+        tables::first_entries(&ps, c),
+        t,
+    ));
+}
+
+// Puts one byte more into t, and judges it against n equal jobs.
+fn put_and_judge(t: &mut [u8], at: usize, byte: u8, n: usize, job: Job) {
+    tables::put(t, at, byte);
+    equal(4096, 1, n, job, t, 4096);
+}
+
+// 12 and 19 of the judge.
+pub fn list_faults(t: &[u8]) {
+    let job = Job { r: 0, d: 1, p: 1 };
+    equal(0, 1, 0, job, t, 4100);
+    equal(4097, 1, 1, job, t, 4100);
+    equal(65535, 1, 1, job, t, 4100);
+    lengths(3, 2, 3, t);
+    lengths(3, 3, 4, t);
+    lengths(65, 65, 64, t);
+    lengths(65, 65, 65, t);
+    lengths(64, 64, 64, t);
+}
+
+// 15 for the first and the last job; 17 after it.
+pub fn job_faults(t: &[u8]) {
+    let job = Job { r: 0, d: 1, p: 1 };
+    jobs(10, 1, 64, job, 0, Job { r: 4, d: 4, p: 1 }, t, 0);
+    jobs(10, 1, 64, job, 63, Job { r: 0, d: 11, p: 1 }, t, 0);
+    jobs(10, 1, 64, job, 63, Job { r: 0, d: 4, p: 0 }, t, 0);
+    jobs(10, 1, 64, job, 63, Job { r: 3, d: 4, p: 1 }, t, 9);
+    equal(1, 1, 1, job, t, 0);
+    equal(4096, 1, 1, job, t, 4095);
+}
+
+// 21 at the first and last slot.
+fn unknown_bytes(t: &mut [u8]) {
+    let job = Job {
+        r: 0,
+        d: 4096,
+        p: 1,
+    };
+    tables::fill(t, 255);
+    put_and_judge(t, 0, 1, 1, job);
+    put_and_judge(t, 0, 64, 64, job);
+    put_and_judge(t, 0, 253, 64, job);
+    tables::put(t, 0, 0);
+    put_and_judge(t, 4095, 64, 64, job);
+    put_and_judge(t, 4095, 1, 1, job);
+}
+
+// No 21 behind the horizon.
+fn behind_the_horizon(t: &mut [u8]) {
+    tables::fill(t, 255);
+    tables::put(t, 0, 0);
+    tables::put(t, 4096, 64);
+    equal(
+        4096,
+        1,
+        1,
+        Job {
+            r: 0,
+            d: 4096,
+            p: 1,
+        },
+        t,
+        4100,
+    );
+}
+
+// 22 at the first and last slot where it can come.
+fn named_too_often(t: &mut [u8]) {
+    let job = Job {
+        r: 0,
+        d: 4096,
+        p: 1,
+    };
+    tables::fill(t, 255);
+    tables::count_up(t, 64);
+    put_and_judge(t, 1, 0, 64, job);
+    tables::put(t, 1, 1);
+    put_and_judge(t, 4095, 63, 64, job);
+}
+
+// 22 comes before 23 at one slot, and the lower slot comes first.
+fn order_of_faults(t: &mut [u8]) {
+    tables::fill(t, 0);
+    equal(
+        4096,
+        1,
+        1,
+        Job {
+            r: 0,
+            d: 4096,
+            p: 4095,
+        },
+        t,
+        4096,
+    );
+    equal(4096, 1, 1, Job { r: 0, d: 1, p: 1 }, t, 4096);
+    equal(4096, 1, 1, Job { r: 0, d: 1, p: 2 }, t, 4096);
+    put_and_judge(t, 2, 64, 1, Job { r: 0, d: 2, p: 3 });
+    equal(4096, 1, 1, Job { r: 0, d: 2, p: 1 }, t, 4096);
+}
+
+// 23 at the first and last slot.
+fn outside_the_span(t: &mut [u8]) {
+    tables::fill(t, 255);
+    put_and_judge(
+        t,
+        0,
+        0,
+        1,
+        Job {
+            r: 1,
+            d: 4096,
+            p: 1,
+        },
+    );
+    tables::put(t, 0, 255);
+    put_and_judge(
+        t,
+        4095,
+        0,
+        1,
+        Job {
+            r: 0,
+            d: 4095,
+            p: 1,
+        },
+    );
+    equal(
+        4096,
+        1,
+        1,
+        Job {
+            r: 4095,
+            d: 4096,
+            p: 1,
+        },
+        t,
+        4096,
+    );
+}
+
+// 23 on either side of a job's own slots.
+fn around_the_span(t: &mut [u8]) {
+    tables::fill(t, 255);
+    tables::put(t, 5, 0);
+    equal(8, 2, 1, Job { r: 5, d: 6, p: 1 }, t, 4096);
+    equal(8, 2, 1, Job { r: 4, d: 5, p: 1 }, t, 4096);
+    equal(8, 2, 1, Job { r: 6, d: 7, p: 1 }, t, 4096);
+}
+
+// 24 for the first and the last job, and for a job of the greatest volume.
+fn named_too_rarely(t: &mut [u8]) {
+    let job = Job {
+        r: 0,
+        d: 4096,
+        p: 1,
+    };
+    tables::fill(t, 255);
+    equal(4096, 1, 64, job, t, 4096);
+    tables::count_up(t, 63);
+    equal(4096, 1, 64, job, t, 4096);
+    tables::count_up(t, 64);
+    equal(4096, 1, 64, job, t, 4096);
+    tables::fill(t, 0);
+    equal(
+        4096,
+        1,
+        1,
+        Job {
+            r: 0,
+            d: 4096,
+            p: 65535,
+        },
+        t,
+        4096,
+    );
+    equal(
+        4096,
+        1,
+        1,
+        Job {
+            r: 0,
+            d: 4096,
+            p: 4096,
+        },
+        t,
+        4096,
+    );
+}
+
+// Each fault of the judge.
+pub fn table_faults(t: &mut [u8]) {
+    unknown_bytes(t);
+    behind_the_horizon(t);
+    named_too_often(t);
+    order_of_faults(t);
+    outside_the_span(t);
+    around_the_span(t);
+    named_too_rarely(t);
+}

@@ -1,0 +1,44 @@
+// The record writer on its refusals.
+use super::show;
+use super::tables;
+
+// Writes the record of the first len bytes of t to all of out, and shows what out then holds.
+fn whole(h: u16, t: &[u8], len: usize, out: &mut [u8]) {
+    tables::fill(out, 170);
+    show::written(record::write(h, tables::first_bytes(t, len), out));
+    show::number(show::digest(out));
+    show::end_line();
+}
+
+// The same with the first room bytes of out.
+pub fn within(h: u16, t: &[u8], len: usize, out: &mut [u8], room: usize) {
+    if room <= out.len() {
+        whole(h, t, len, &mut out[..room]);
+    }
+}
+
+// 12 and 17 of the record writer.
+pub fn sizes(t: &mut [u8], out: &mut [u8]) {
+    tables::fill(t, 255);
+    within(0, t, 4100, out, 0);
+    within(4097, t, 4100, out, 4700);
+    within(65535, t, 4100, out, 4700);
+    within(1, t, 0, out, 4700);
+    within(4096, t, 4095, out, 4700);
+}
+
+// Puts one byte more into t, and writes the record of its first len bytes.
+fn put_and_write(t: &mut [u8], at: usize, byte: u8, len: usize, out: &mut [u8], room: usize) {
+    tables::put(t, at, byte);
+    within(4096, t, len, out, room);
+}
+
+// 21 of the record writer at the first and last slot, and not behind the horizon.
+pub fn unknown_bytes(t: &mut [u8], out: &mut [u8]) {
+    tables::fill(t, 255);
+    put_and_write(t, 0, 64, 4096, out, 4700);
+    tables::put(t, 0, 63);
+    put_and_write(t, 4095, 253, 4096, out, 0);
+    tables::put(t, 4095, 254);
+    put_and_write(t, 4096, 100, 4100, out, 4700);
+}
