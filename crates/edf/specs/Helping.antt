@@ -1,41 +1,34 @@
 -- Where one slot more serves a unit more: a lossy deadline, and a unit due by it carried over every slot up to it.
 use Prim.Native.Nat.{ℕ, suc, _≤_, _<_}
-use mathlib.Core.Path.{_≡_, refl, ap}
+use mathlib.Core.Path.{_≡_, refl}
 use mathlib.Core.Bool.{Bool, true}
 use mathlib.Core.Option.{Option, none, some}
 use mathlib.Core.Logic.{_⊎_, inl, inr}
 use native.Mathlib.Omega.{arith}
 use native.Mathlib.Decide.{le-ind}
-use Rattle.edf.specs.Run.{Spans, State, Eligible, chosen, after, vol, left, allUnits}
+use Rattle.edf.specs.Run.{Spans, State, Eligible, chosen, after, vol, left}
 use Rattle.edf.specs.Pick.{View, view}
-use Rattle.edf.specs.Units.{OneMore, sum-one-more}
+use Rattle.edf.specs.Units.{OneMore}
 use Rattle.edf.specs.Apart.{Step, stays, moves, meets}
-use Rattle.edf.specs.Left.{vol-and-left, left-asleep}
+use Rattle.edf.specs.Left.{same-left, one-less-left, left-asleep}
 use Rattle.edf.specs.Lacking.{Carry, Lacking}
 use Rattle.edf.specs.Carry.{carry-more, carry-eligible}
 use Rattle.edf.specs.OneSlotMore.{Extra, Gap, closed, open-at, extra-step, extra-apart, apart-step, gap, extra-leaves-less}
 
 module _ (F : Spans) (S S′ : ℕ → Bool) (p : State) (x H : ℕ) (c : Extra S S′ x) where
-  closed-volume : left F S p H ≡ left F S′ p H → vol F S′ H 0 p ≡ vol F S H 0 p
-  closed-volume e = omega (arith, vol-and-left F S p H, vol-and-left F S′ p H, ap (λ (L : State). allUnits F L) e)
-
-  apart-volume : (k : ℕ) → k < F .n → OneMore k (left F S p H) (left F S′ p H) → vol F S′ H 0 p ≡ suc (vol F S H 0 p)
-  apart-volume k b o =
-      omega (arith, vol-and-left F S p H, vol-and-left F S′ p H, sum-one-more (F .n) k (left F S p H) (left F S′ p H) b o)
-
   -- one slot more serves as many units, or one more
   pub extra-worth : x < H → (vol F S′ H 0 p ≡ vol F S H 0 p) ⊎ (vol F S′ H 0 p ≡ suc (vol F S H 0 p))
   extra-worth l = go (gap F S S′ p x c H l)
     where
       go : Gap F S S′ p x H → (vol F S′ H 0 p ≡ vol F S H 0 p) ⊎ (vol F S′ H 0 p ≡ suc (vol F S H 0 p))
-      go (closed e) = inl (closed-volume e)
-      go (open-at o) = inr (apart-volume (o .job) (o .below) (o .apart))
+      go (closed e) = inl (same-left F S S′ p H e)
+      go (open-at o) = inr (one-less-left F S S′ p H (o .job) (o .below) (o .apart))
 
   pub helping-lacks : x < H → ((j : ℕ) → j < F .n → F .d j ≤ H) → vol F S′ H 0 p ≡ suc (vol F S H 0 p) → Lacking F S p H x
   helping-lacks l within e = go (gap F S S′ p x c H l)
     where
       go : Gap F S S′ p x H → Lacking F S p H x
-      go (closed q) = absurd (omega (arith, closed-volume q))
+      go (closed q) = absurd (omega (arith, same-left F S S′ p H q))
       go (open-at o) =
           record {
             deadline = F .d (o .job);
@@ -92,7 +85,7 @@ module _ (F : Spans) (S S′ : ℕ → Bool) (p : State) (x H : ℕ) (c : Extra 
       let first : DueBy e (suc x) = due-start e o (view F true x (left F S p x)) (extra-step F S S′ p x c) (k (suc x) (omega arith) l) in
       let upto : suc x ≤ e → (e ≤ e → DueBy e e) = le-ind (λ t. t ≤ e → DueBy e t) (λ _. first) (λ t a ih b. due-next e t a (k (suc t) (omega arith) b) (ih (omega arith))) e in
       let end : DueBy e H = le-ind (λ t. DueBy e t) (upto l (omega arith)) (λ t a u. due-past e t (omega arith) a u) H m in
-      apart-volume (end .job) (end .below) (end .apart)
+      one-less-left F S S′ p H (end .job) (end .below) (end .apart)
 
 -- A slot that does not help does not help after another slot was woken.
 pub helps-before : (F : Spans) (S Sx Sy Sxy : ℕ → Bool) (p : State) (x y H : ℕ) → Extra S Sx x → Extra S Sy y → Extra Sy Sxy x →

@@ -1,5 +1,5 @@
 -- What is left along the run: it only falls, a job is served in its own slots only, and what is served is no longer left.
-use Prim.Native.Nat.{ℕ, zero, suc, _+_, _≤_}
+use Prim.Native.Nat.{ℕ, zero, suc, _+_, _≤_, _<_}
 use mathlib.Core.Path.{_≡_, refl, ap, sym, _∙_}
 use mathlib.Core.Bool.{Bool, true, false}
 use mathlib.Core.Option.{Option, none, some}
@@ -7,7 +7,7 @@ use native.Mathlib.Omega.{arith}
 use native.Mathlib.Decide.{ℕ-discrete, le-ind}
 use Rattle.edf.specs.Run.{Spans, State, Eligible, pick, chosen, lowered, after, gain, vol, final, left, allUnits}
 use Rattle.edf.specs.Pick.{View, view}
-use Rattle.edf.specs.Units.{lowered-less, lowered-elsewhere, less-everywhere, sum-one-more}
+use Rattle.edf.specs.Units.{OneMore, lowered-less, lowered-elsewhere, less-everywhere, sum-one-more}
 
 module _ (F : Spans) (b : Bool) (t : ℕ) (L : State) where
   after-falls : (o : Option ℕ) → View F b t L o → (j : ℕ) → after L o j ≤ L j
@@ -79,3 +79,12 @@ module _ (F : Spans) (S : ℕ → Bool) (p : State) where
   unfolding left
   left-unreleased zero j l = refl
   left-unreleased (suc t) j l = left-kept t j (λ e. omega (arith, e .released)) ∙ left-unreleased t j (omega arith)
+
+-- two sets of awake slots, by what their runs leave
+module _ (F : Spans) (S S′ : ℕ → Bool) (p : State) (H : ℕ) where
+  pub same-left : left F S p H ≡ left F S′ p H → vol F S′ H 0 p ≡ vol F S H 0 p
+  same-left e = omega (arith, vol-and-left F S p H, vol-and-left F S′ p H, ap (λ (L : State). allUnits F L) e)
+
+  pub one-less-left : (k : ℕ) → k < F .n → OneMore k (left F S p H) (left F S′ p H) → vol F S′ H 0 p ≡ suc (vol F S H 0 p)
+  one-less-left k b o =
+      omega (arith, vol-and-left F S p H, vol-and-left F S′ p H, sum-one-more (F .n) k (left F S p H) (left F S′ p H) b o)

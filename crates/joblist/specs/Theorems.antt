@@ -4,7 +4,6 @@ use Prim.Native.Nat.{ℕ, _≤_}
 use mathlib.Core.Path.{_≡_, refl, ap, sym, subst, _∙_}
 use mathlib.Core.Bool.{Bool}
 use mathlib.Core.List.{List, _++_}
-use native.Mathlib.Omega.{arith}
 use borrow.Author.Tests.{le-ltb}
 use lib.ListN.{length, take, drop}
 use lib.Dec.{ltb}
@@ -14,15 +13,15 @@ use Rattle.sched.specs.Checks.{Passes, unless, andThen}
 use Rattle.sched.specs.Checks.Laws.{passes-passed}
 use Rattle.sched.specs.declared.Refusal.the-variants.{TooShort}
 use Rattle.sched.specs.declared.Checked.{Checked}
-use Rattle.sched.specs.declared.Checked.the-variants.{Passed, Refused as Faulty}
-use Rattle.joblist.specs.Bytes.{headerLength, headerHorizon, headerWake, headerCount, spelling}
-use Rattle.joblist.specs.Reading.{releaseOf, deadlineOf, volumeOf, readCheck, column, listOf, Reading, accepted, reading}
+use Rattle.sched.specs.declared.Checked.the-variants.{Passed}
+use Rattle.joblist.specs.Bytes.{headerCount, spelling}
+use Rattle.joblist.specs.Reading.{Reading, reading}
 use Rattle.joblist.specs.Writing.{Writing, writeCheck, afterCheck, writing}
 use Rattle.joblist.specs.declared.ListWritten.the-variants.{Written}
-use Rattle.joblist.specs.Laws.Column.{column-length}
-use Rattle.joblist.specs.Laws.Input.{Room, read-passed, read-passes, reading-accepted, reading-refused}
+use Rattle.joblist.specs.Laws.Input.{Room, read-passed, read-passes, reading-accepted}
 use Rattle.joblist.specs.Laws.Fields.{AreBytes}
-use Rattle.joblist.specs.Laws.Lists.{same-list, list-back, spelling-good, count-back, input-again, list-passes}
+use Rattle.joblist.specs.Laws.Handed.{read-list}
+use Rattle.joblist.specs.Laws.Lists.{list-back, spelling-good, count-back, input-again, list-passes}
 use Rattle.joblist.specs.declared.ListHeader.{ListHeader}
 use Rattle.joblist.specs.declared.ListRead.the-variants.{Read, Refused}
 
@@ -57,38 +56,17 @@ read-after-write J rs ds ps g room =
           volumes = K .volumes ++ drop n ps;
         }
 
--- what an accepted reading hands over is the list that the bytes stand for
-handed-list : (bytes rs ds ps : List ℕ) (list : ListHeader) → readCheck bytes (length rs) (length ds) (length ps) ≡ Passed → reading bytes rs ds ps .answer ≡ Read list → handed list (reading bytes rs ds ps) ≡ listOf bytes
-handed-list bytes rs ds ps list p e =
-    let q = reading-accepted bytes rs ds ps p in
-    let t : accepted bytes rs ds ps .answer ≡ Read list = sym (ap (λ (x : Reading). x .answer) q) ∙ e in
-    let header : list ≡ record { h = headerHorizon bytes; q = headerWake bytes; count = headerCount bytes } = cc in
-    ap (λ (x : Reading). handed list x) q
-    ∙ ap (λ (l : ListHeader). handed l (accepted bytes rs ds ps)) header
-    ∙ same-list (handed (record { h = headerHorizon bytes; q = headerWake bytes; count = headerCount bytes }) (accepted bytes rs ds ps)) (listOf bytes) refl refl
-    (cut releaseOf rs) (cut (deadlineOf (headerHorizon bytes)) ds) (cut volumeOf ps)
-  where
-    cut : (field : List ℕ → ℕ) (xs : List ℕ) → take (headerCount bytes) (column field (headerCount bytes) (drop headerLength bytes) ++ drop (headerCount bytes) xs) ≡ column field (headerCount bytes) (drop headerLength bytes)
-    cut field xs = take-at (column field (headerCount bytes) (drop headerLength bytes)) (drop (headerCount bytes) xs) (headerCount bytes) (column-length field (headerCount bytes) (drop headerLength bytes))
-
 -- 2. Bytes that are read without refusal are the bytes that are written for what was read, and that list passes the list checks.
 pub write-after-read : (bytes rs ds ps : List ℕ) (list : ListHeader) → AreBytes bytes → reading bytes rs ds ps .answer ≡ Read list → (bytes ≡ spelling (handed list (reading bytes rs ds ps))) × Passes (handed list (reading bytes rs ds ps))
 write-after-read bytes rs ds ps list small e =
-    let g = read-passed bytes (length rs) (length ds) (length ps) passed in
-    let same = handed-list bytes rs ds ps list passed e in (
-      input-again bytes (length rs) (length ds) (length ps) small g ∙ ap spelling (sym same),
-      rw same (list-passes bytes (length rs) (length ds) (length ps) small g),
+    let x = reading bytes rs ds ps in
+    let l =
+    read-list bytes rs ds ps (x .releases) (x .deadlines) (x .volumes) (x .answer)
+    (record { told = refl; number = refl; values = refl; releases = refl; deadlines = refl; volumes = refl }) list e in
+    let g = read-passed bytes (length rs) (length ds) (length ps) (l .passed) in (
+      input-again bytes (length rs) (length ds) (length ps) small g ∙ ap spelling (sym (l .jobs)),
+      rw (l .jobs) (list-passes bytes (length rs) (length ds) (length ps) small g),
     )
-  where
-    go : (c : Checked) → readCheck bytes (length rs) (length ds) (length ps) ≡ c → c ≡ Passed
-    go Passed q = refl
-    go (Faulty r) q =
-        let x : Refused r ≡ Read list = sym (ap (λ (x : Reading). x .answer) (reading-refused bytes rs ds ps r q)) ∙ e in
-        let z : _≡_ {A = ℕ} 0 1 = cc in
-        absurd (omega arith)
-
-    passed : readCheck bytes (length rs) (length ds) (length ps) ≡ Passed
-    passed = go (readCheck bytes (length rs) (length ds) (length ps)) refl
 
 -- 3. Each list has one spelling: bytes that are read to the same header and jobs are equal.
 pub one-spelling : (bytes bytes′ rs ds ps rs′ ds′ ps′ : List ℕ) (list list′ : ListHeader) → AreBytes bytes → AreBytes bytes′ → reading bytes rs ds ps .answer ≡ Read list → reading bytes′ rs′ ds′ ps′ .answer ≡ Read list′ → handed list (reading bytes rs ds ps) ≡ handed list′ (reading bytes′ rs′ ds′ ps′) → bytes ≡ bytes′

@@ -1,6 +1,6 @@
 -- The chain finds whether a sleeping slot helps.
 use Prim.Native.Nat.{ℕ, zero, suc, _+_, _-_, _≤_, _<_}
-use mathlib.Core.Path.{_≡_, refl, ap, sym, _∙_}
+use mathlib.Core.Path.{_≡_, refl, sym, _∙_}
 use mathlib.Core.Bool.{Bool, true, false}
 use mathlib.Core.List.{List}
 use native.Mathlib.Omega.{arith}
@@ -13,40 +13,23 @@ use Rattle.sched.specs.Jobs.{Jobs, count, volume}
 use Rattle.sched.specs.Checks.{Passes}
 use Rattle.sched.specs.Slots.{awake, wakeSlot}
 use Rattle.sched.specs.Steps.{helps}
-use Rattle.edf.specs.Run.{State, spans, vol, allUnits, edfVolume}
-use Rattle.edf.specs.Units.{OneMore, sum-one-more}
-use Rattle.edf.specs.Left.{vol-and-left}
+use Rattle.edf.specs.Run.{spans, vol, edfVolume}
+use Rattle.edf.specs.Left.{same-left, one-less-left}
 use Rattle.edf.specs.Theorems.{workable-is-edf}
 use Rattle.edf.specs.Chain.{jobAt, RankedJobs, Kept, gains, chainHelps}
 use Rattle.edf.specs.Chain.Turns.{gains-closed, gains-lost, gains-on}
 use Rattle.edf.specs.Chain.Open.{openIn, open-ends}
-use Rattle.edf.specs.Chain.Ahead.{leftOf, Waking, Ahead, ahead-closed, ahead-on, ahead-end, gained-alike}
+use Rattle.edf.specs.Chain.Ahead.{Waking, Ahead, ahead-closed, ahead-on, ahead-end, gained-alike}
 use Rattle.edf.specs.Chain.Keeping.{waking, starts-ahead}
 
 -- the units that the run of S serves
 abbrev pub volumeOf : Jobs → (ℕ → Bool) → ℕ
 volumeOf J S = vol (spans J) S (J .horizon) 0 (volume J)
 
-apart-volume : (J : Jobs) (S S′ : ℕ → Bool) (j : ℕ) → j < count J → OneMore j (leftOf J S (J .horizon)) (leftOf J S′ (J .horizon)) →
-    volumeOf J S′ ≡ suc (volumeOf J S)
-apart-volume J S S′ j l o =
-    omega (
-      arith,
-      vol-and-left (spans J) S (volume J) (J .horizon),
-      vol-and-left (spans J) S′ (volume J) (J .horizon),
-      sum-one-more (count J) j (leftOf J S (J .horizon)) (leftOf J S′ (J .horizon)) l o,
-    )
-
 -- past the last rank nothing was gained
 pub met-volume : {J : Jobs} {order lost ends : List ℕ} {S S′ : ℕ → Bool} {x k t : ℕ} → Waking J order lost S S′ x → Ahead J order ends S S′ x k t → count J ≤ k →
     volumeOf J S′ ≡ volumeOf J S
-met-volume {J} {order} {lost} {ends} {S} {S′} c h l =
-    omega (
-      arith,
-      vol-and-left (spans J) S (volume J) (J .horizon),
-      vol-and-left (spans J) S′ (volume J) (J .horizon),
-      ap (λ (L : State). allUnits (spans J) L) (ahead-end c h l),
-    )
+met-volume {J} {order} {lost} {ends} {S} {S′} c h l = same-left (spans J) S S′ (volume J) (J .horizon) (ahead-end c h l)
 
 module _ {J : Jobs} {order lost : List ℕ} {S S′ : ℕ → Bool} {x : ℕ} (c : Waking J order lost S S′ x) (ends : List ℕ) where
   abbrev Found : ℕ → ℕ → ℕ → Type 0
@@ -60,7 +43,7 @@ module _ {J : Jobs} {order lost : List ℕ} {S S′ : ℕ → Bool} {x : ℕ} (c
       go : Dec (0 < getD lost (jobAt order k) 0) → Found (suc m) k t
       go (yes u) =
           gains-lost (J .releases) (J .deadlines) order lost ends m k t o u
-          ∙ sym (eq-eqb (volumeOf J S′) (suc (volumeOf J S)) (apart-volume J S S′ (jobAt order k) (c .ranks .known k below) (gained-alike c h below o u .apart)))
+          ∙ sym (eq-eqb (volumeOf J S′) (suc (volumeOf J S)) (one-less-left (spans J) S S′ (volume J) (J .horizon) (jobAt order k) (c .ranks .known k below) (gained-alike c h below o u .apart)))
       go (no f) =
           let z : getD lost (jobAt order k) 0 ≡ 0 = omega arith in
           let w = getD ends (jobAt order k) 0 - 1 in
