@@ -1,4 +1,5 @@
-/* Times of sleep_plan beside three other implementations, on the same lists in one process; their tables are compared. */
+/* Times of sleep_plan beside three other implementations, on the same lists in one process; their tables are compared. Where a loop happens to lie
+ * makes it a third quicker or slower on some processors, so each implementation is there in four places and its best one counts. */
 #define _GNU_SOURCE
 #include "kinds.h"
 #include "sleep_plan.h"
@@ -8,7 +9,7 @@
 #include <string.h>
 #include <time.h>
 
-enum { FAMILIES = 10, SIZES = 4, STACK = 1 << 20, ROUNDS = 60 };
+enum { FAMILIES = 10, SIZES = 4, PLACES = 4, STACK = 1 << 20, ROUNDS = 20 };
 static const char *family_name[FAMILIES] = {"one", "nested", "tiled", "loose", "random", "no job", "volume 1", "overload", "q 0", "q 65535"};
 static const int sizes[SIZES] = {512, 1024, 2048, 4096};
 
@@ -45,15 +46,26 @@ static size_t spell(const struct list *l, uint8_t *b) {
   return n;
 }
 
+#define IN_PLACE(at) \
+  uint32_t sleep_plan_##at(const uint8_t *, size_t, uint8_t *, size_t, uint8_t *, size_t); \
+  int best_plan_##at(const uint8_t *, size_t, uint8_t *, uint32_t *); \
+  void limit_fill_##at(const struct list *, const uint8_t *, uint8_t *);
+IN_PLACE(0) IN_PLACE(16) IN_PLACE(32) IN_PLACE(48)
+static uint32_t (*const sleep_plan_in[PLACES])(const uint8_t *, size_t, uint8_t *, size_t, uint8_t *, size_t) = {
+  sleep_plan_0, sleep_plan_16, sleep_plan_32, sleep_plan_48};
+static int (*const best_plan_in[PLACES])(const uint8_t *, size_t, uint8_t *, uint32_t *) = {best_plan_0, best_plan_16, best_plan_32, best_plan_48};
+static void (*const limit_fill_in[PLACES])(const struct list *, const uint8_t *, uint8_t *) = {limit_fill_0, limit_fill_16, limit_fill_32, limit_fill_48};
+static int place;
+
 static uint8_t bytes[512], ours[MAX_H], other[MAX_H], scratch[MAX_H], block[16];
 static uint32_t best_block[4], plain_block[4];
 static size_t bytes_len;
 static struct list list;
 
-static void call_ours(void) { sleep_plan(bytes, bytes_len, ours, sizeof ours, block, sizeof block); }
-static void call_best(void) { best_plan(bytes, bytes_len, other, best_block); }
+static void call_ours(void) { sleep_plan_in[place](bytes, bytes_len, ours, sizeof ours, block, sizeof block); }
+static void call_best(void) { best_plan_in[place](bytes, bytes_len, other, best_block); }
 static void call_plain(void) { plain_plan(bytes, bytes_len, scratch, plain_block); }
-static void call_limit(void) { limit_fill(&list, ours, scratch); }
+static void call_limit(void) { limit_fill_in[place](&list, ours, scratch); }
 
 static double now(void) { struct timespec t; clock_gettime(CLOCK_MONOTONIC, &t); return (double)t.tv_sec * 1e6 + (double)t.tv_nsec / 1e3; }
 
@@ -67,8 +79,8 @@ static double least(double so_far, void (*call)(void), int repeats) {
 
 static int differs(void) {
   memset(ours, 255, sizeof ours);
-  uint32_t number = sleep_plan(bytes, bytes_len, ours, sizeof ours, block, sizeof block);
-  int best = best_plan(bytes, bytes_len, other, best_block), plain = plain_plan(bytes, bytes_len, scratch, plain_block);
+  uint32_t number = sleep_plan_in[place](bytes, bytes_len, ours, sizeof ours, block, sizeof block);
+  int best = best_plan_in[place](bytes, bytes_len, other, best_block), plain = plain_plan(bytes, bytes_len, scratch, plain_block);
   if ((int)number != best || best != plain) return 1;
   for (int i = 0; i < 16; i++) if (block[i] != (uint8_t)(best_block[i / 4] >> 8 * (i % 4)) || best_block[i / 4] != plain_block[i / 4]) return 1;
   return number == 0 && (memcmp(ours, other, (size_t)list.h) || memcmp(ours, scratch, (size_t)list.h));
@@ -107,9 +119,11 @@ int main(int argc, char **argv) {
     for (int s = 0; s < SIZES; s++) {
       make(&list, f, sizes[s]);
       bytes_len = spell(&list, bytes);
-      if (differs()) { printf("%s at %d: answers differ\n", family_name[f], list.h); return 1; }
+      for (place = 0; place < PLACES; place++) if (differs()) { printf("%s at %d: answers differ\n", family_name[f], list.h); return 1; }
       double l = 1e18, b = 1e18, p = least(1e18, call_plain, 1), o = 1e18;
-      for (int round = 0; round < ROUNDS; round++) { l = least(l, call_limit, 10); b = least(b, call_best, 10); o = least(o, call_ours, 10); }
+      for (int round = 0; round < ROUNDS; round++)
+        for (place = 0; place < PLACES; place++) { l = least(l, call_limit, 10); b = least(b, call_best, 10); o = least(o, call_ours, 10); }
+      place = 0;
       if (s == 0) at_first = o;
       printf("%-9s %5d %9.1f %9.1f %9.1f %9.1f %7.1f %7.2f\n", family_name[f], list.h, l, b, p, o, o / l, o / b);
       if (s == SIZES - 1) printf("%-9s       grows %.1f-fold from %d to %d slots\n", "", o / at_first, sizes[0], sizes[SIZES - 1]);
