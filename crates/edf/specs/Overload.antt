@@ -9,6 +9,7 @@ pub mod Counting
 pub mod Ends
 pub mod Order
 pub mod Search
+pub mod Late
 
 -- the jobs inside a..b need more slots than it has
 pub record Overfull (J : Jobs) (a b : ℕ) : Type 0 where

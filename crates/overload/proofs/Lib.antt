@@ -1,6 +1,6 @@
-pub mod Filling
-pub mod Taking
-pub mod Visiting
 pub mod Starts
-pub mod Searching
+pub mod Visiting
+pub mod Waiting
+pub mod Events
+pub mod Passing
 pub mod Showing

@@ -1,30 +1,89 @@
--- A visit from its parts: the rooms are lowered, and if an end is overfull the least is kept.
-use Prim.Native.Nat.{ℕ, _+_, _<_}
-use mathlib.Core.Path.{_≡_, refl}
-use mathlib.Core.Bool.{Bool, true, false}
-use mathlib.Core.List.{List}
-use mathlib.Core.Logic.{inl, inr}
-use native.Mathlib.Decide.{decLt}
+-- The visits, one by one: the start for an end is the one from the jobs still to be visited and the volumes so far.
+use Prim.Native.Nat.{ℕ, _+_, _-_, _*_, _≤_, _<_}
+use mathlib.Core.Path.{_≡_, sym, ap, _∙_}
+use mathlib.Core.List.{List, _∷_}
+use mathlib.Core.Option.{Option, none, some}
 use native.Mathlib.Omega.{arith}
-use Rattle.overload.specs.Room.{spare, Takeable, SomeOver, Taken, Findable, LeastOver, Visited}
+use lib.ListN.{length, take}
+use lib.Seq.{take-length}
+use Rattle.sched.specs.Jobs.{Jobs, count, release, deadline, volume}
+use Rattle.edf.specs.Overload.Search.{startFor, startOr}
+use Rattle.ranking.specs.Order.{keyOf}
+use Rattle.ranking.specs.Order.Both.{ranks-long, ranked-jobs, in-arrival}
+use Rattle.overload.specs.Search.{falling, Asked}
+use Rattle.overload.proofs.Starts.{start-late, start-found, start-next, next-falling}
 
-module _ (before after : List ℕ) (from p a lim : ℕ) (over : Bool) (d : Taken before after from lim p (spare + a) over) where
-  pub visit-fits : (start : ℕ) → over ≡ false → Visited before after from p a lim start lim start
-  visit-fits start e = record { lowered = d .lowered; fits = d .noted .fits e; ended = inl (refl, refl) }
+-- the first `at` ranks by release are still to be visited
+pub record Visiting (J : Jobs) (b : ℕ) (order soon : List ℕ) (sum at : ℕ) : Type 0 where
+  pub asked : Asked J order soon
+  pub within : at ≤ length soon
+  pub small : sum ≤ 65535 * (length soon - at)
+  pub rest : startFor J b (falling order soon) 0 ≡ startFor J b (falling order (take at soon)) sum
 
-  module _ (e : over ≡ true) where
-    some-over : SomeOver after from lim (spare + a)
-    some-over = d .noted .found e
+module _ (J : Jobs) (b : ℕ) (order soon : List ℕ) where
+  pub visit-start : Asked J order soon → Visiting J b order soon 0 (length soon)
+  visit-start r =
+      record {
+        asked = r;
+        within = omega arith;
+        small = omega arith;
+        rest = ap (λ (l : List ℕ). startFor J b (falling order l) 0) (sym (take-length soon));
+      }
 
-    pub visit-findable : Takeable before lim p → Findable after from (spare + a)
-    visit-findable r =
-        let o = some-over in
-        record { at = o .at; low = o .low; over = o .over; place = omega (arith, o .high, r .places, d .lowered .long) }
+  module _ (sum at : ℕ) (v : Visiting J b order soon sum at) where
+    long : length soon ≡ count J
+    long = in-arrival J order soon (v .asked .passes) (v .asked .orders) .long
 
-    pub visit-over : (start i : ℕ) → LeastOver after from (spare + a) i → Visited before after from p a lim start i a
-    visit-over start i m =
-        record { lowered = d .lowered; fits = m .fits; ended = inr (m .low, high (decLt (some-over .at) i), refl, m .over) }
-      where
-        high : Dec (some-over .at < i) → i < lim
-        high (yes h) = absurd (omega (arith, some-over .over, m .fits (some-over .at) (some-over .low) h))
-        high (no h) = omega (arith, some-over .high)
+    -- the sum stays small
+    pub visit-sum : sum ≤ 4194240
+    visit-sum = omega (arith, v .small, v .within, long, v .asked .passes .few)
+
+    pub visit-end : at ≤ 0 → 0 ≡ startOr 0 (startFor J b (falling order soon) 0)
+    unfolding startFor
+    visit-end m = let z : at ≡ 0 = omega arith in sym (ap (startOr 0) (rw z at (v .rest)))
+
+    module _ (more : 0 < at) where
+      abbrev job : ℕ
+      job = keyOf order (keyOf soon (at - 1))
+
+      rank-known : keyOf soon (at - 1) < count J
+      rank-known = in-arrival J order soon (v .asked .passes) (v .asked .orders) .known (at - 1) (omega (arith, v .within, long))
+
+      pub visit-rank : keyOf soon (at - 1) < length order
+      visit-rank = omega (arith, rank-known, ranks-long J order soon (v .asked .passes) (v .asked .orders))
+
+      pub visit-known : job < length (J .releases)
+      visit-known = ranked-jobs J order soon (v .asked .passes) (v .asked .orders) .known (keyOf soon (at - 1)) rank-known
+
+      pub visit-deadline : job < length (J .deadlines)
+      visit-deadline = omega (arith, visit-known, v .asked .passes .same-deadlines)
+
+      pub visit-volume : job < length (J .volumes)
+      visit-volume = omega (arith, visit-known, v .asked .passes .same-volumes)
+
+      pub visit-span : release J job < deadline J job
+      visit-span = v .asked .passes .good job visit-known .span
+
+      first : startFor J b (falling order soon) 0 ≡ startFor J b (job ∷ falling order (take (at - 1) soon)) sum
+      first = v .rest ∙ ap (λ (l : List ℕ). startFor J b l sum) (next-falling order soon at more (v .within))
+
+      pub visit-late : b < deadline J job → Visiting J b order soon sum (at - 1)
+      visit-late l =
+          record {
+            asked = v .asked;
+            within = omega (arith, v .within);
+            small = omega (arith, v .small, v .within);
+            rest = first ∙ start-late J b job (falling order (take (at - 1) soon)) sum l;
+          }
+
+      pub visit-next : deadline J job ≤ b → volume J job < 65536 → sum + volume J job ≤ b - release J job → Visiting J b order soon (sum + volume J job) (at - 1)
+      visit-next l w m =
+          record {
+            asked = v .asked;
+            within = omega (arith, v .within);
+            small = omega (arith, v .small, v .within);
+            rest = first ∙ start-next J b job (falling order (take (at - 1) soon)) sum l m;
+          }
+
+      pub visit-found : deadline J job ≤ b → b - release J job < sum + volume J job → release J job ≡ startOr 0 (startFor J b (falling order soon) 0)
+      visit-found l m = sym (ap (startOr 0) (first ∙ start-found J b job (falling order (take (at - 1) soon)) sum l m))

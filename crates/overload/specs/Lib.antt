@@ -1,3 +1,3 @@
 -- What the functions of the search promise each other.
-pub mod Room
 pub mod Search
+pub mod Pass

@@ -1,116 +1,84 @@
-// Step 1: the overloaded interval that is shown. An end is a deadline, a start is a release. Every end has room for as many units as there are slots
-// before it. The jobs are visited by falling release, and each takes its volume from the ends that are not before its deadline. An end is overfull
-// from a release on if it then has less room than there are slots before the release.
+// Step 1: the overloaded interval that is shown. In one pass all slots are awake, and of the jobs that wait the one with the earliest deadline is
+// served, behind its deadline, too. The least deadline that a job is finished behind is the end. The start is the greatest release from which the
+// jobs that are due by the end have too little room.
 use sched::Interval;
 ghost use mathlib.Core.Path.{_≡_};
-ghost use Prim.Native.Nat.{ℕ, _≤_, _<_};
-ghost use lib.ListN.{length, getD};
 ghost use Rattle.sched.specs.Jobs.{jobsOf};
 ghost use Rattle.sched.specs.Checks.{Passes};
 ghost use Rattle.sched.specs.Overload.{shownOverload};
+ghost use Rattle.edf.specs.Overload.Search.{startFor, startOr};
+ghost use Rattle.edf.specs.Overload.Late.{EndAfter};
 ghost use Rattle.ranking.specs.Order.{Orders};
-ghost use Rattle.overload.specs.Room.{Rooms, Rising, Firsts, Takeable, Taken, Findable, LeastOver, Visited};
-ghost use Rattle.overload.specs.Search.{shownOf, Searchable, Searched};
+ghost use Rattle.overload.specs.Search.{shownOf, falling, Asked};
+ghost use Rattle.overload.specs.Pass.{Reachable, Coming, Arrivable, Arrived, Turnable, Turned, LeastEnd};
 
-// More than 64 volumes together, so that no room falls below 0.
-const SPARE: u32 = 4194304;
+// A slot behind every other.
+const NEVER: u32 = 16777216;
+
+// Behind every deadline.
+const NO_END: u16 = 65535;
 
 pub enum Shown {
     Nothing,
     At(Interval),
 }
 
-// The ends of the ranks before `lim` are not overfull yet, and that of `lim`, if there is such a rank, is from `start` on.
-struct Found {
-    lim: usize,
-    start: u16,
+// The slots before t are served. The ranks that wait have a bit each; the first `next` of `soon` have come, and the next one comes at slot
+// `coming`. `end` is the least deadline that a job was finished behind.
+struct Pass {
+    t: u32,
+    waiting: u64,
+    next: usize,
+    coming: u32,
+    end: u16,
 }
 
-// The room of each rank before any visit: its deadline, and some to spare.
-fn rooms(deadlines: &[u16], order: &[u8]) -> [u32; 64]
-    requires { ⌜ (length (now order) ≤ 64) × ((k : ℕ) → k < length (now order) → getD (now order) k 0 < length (now deadlines)) ⌝ }
-    ensures { λ r. ⌜ Rooms (now (deadlines .entry)) (now (order .entry)) r ⌝ }
+// When the rank at place i of `soon` is released.
+fn comes_at(i: usize, releases: &[u16], order: &[u8], soon: &[u8]) -> u32
+    requires { ⌜ Reachable (now releases) (now order) (now soon) ⌝ }
+    ensures { λ r. ⌜ Coming (now (releases .entry)) (now (order .entry)) (now (soon .entry)) i r ⌝ }
 {
-    let mut room = [0u32; 64];
-    let mut k = 0;
-    while k < order.len() {
-        let job = order[k] as usize;
-        room[k] = SPARE + deadlines[job] as u32;
-        k += 1;
+    if i < releases.len() {
+        let rank = soon[i] as usize;
+        let job = order[rank] as usize;
+        return releases[job] as u32;
     }
-    room
+    NEVER
 }
 
-// For each of n ranks the first with its deadline.
-fn firsts(n: usize, room: &[u32]) -> [u8; 64]
-    requires { ⌜ Rising n (now room) ⌝ }
-    ensures { λ r. ⌜ Firsts n (now (room .entry)) r ⌝ }
+// The next rank comes.
+fn arrive(last: Pass, releases: &[u16], order: &[u8], soon: &[u8]) -> Pass
+    requires { ⌜ Arrivable (now releases) (now order) (now soon) (last .waiting) (last .next) ⌝ }
+    ensures { λ r. ⌜ Arrived (now (releases .entry)) (now (order .entry)) (now (soon .entry)) (last .t) (last .waiting) (last .next) (last .end) (r .t) (r .waiting) (r .next) (r .coming) (r .end) ⌝ }
 {
-    let mut first = [0u8; 64];
-    let mut at = 0;
-    let mut k = 0;
-    while k < n {
-        if room[at] < room[k] {
-            at = k;
-            first[k] = k as u8;
-            k += 1;
-        } else {
-            first[k] = at as u8;
-            k += 1;
+    let at = last.next;
+    let rank = soon[at] as u32;
+    let next = at + 1;
+    Pass {
+        t: last.t,
+        waiting: last.waiting + (1u64 << rank),
+        next,
+        coming: comes_at(next, releases, order, soon),
+        end: last.end,
+    }
+}
+
+// The end after a job is finished before slot t.
+fn end_after(end: u16, deadline: u16, t: u32) -> u16
+    ensures { λ r. ⌜ EndAfter end deadline t r ⌝ }
+{
+    if (deadline as u32) < t {
+        if deadline < end {
+            return deadline;
         }
-    }
-    first
-}
-
-// Takes p from the rooms of the ranks from `from` up to `lim`, and notes whether one falls below `floor`.
-fn take_from(from: usize, lim: usize, p: u32, floor: u32, room: &mut [u32]) -> bool
-    requires { ⌜ Takeable (now room) lim p ⌝ }
-    ensures { λ r. ⌜ Taken (now (room .entry)) (now (room .exit)) from lim p floor r ⌝ }
-{
-    let mut over = false;
-    let mut i = from;
-    while i < lim {
-        let left = room[i] - p;
-        room[i] = left;
-        if left < floor {
-            over = true;
-            i += 1;
-        } else {
-            i += 1;
-        }
-    }
-    over
-}
-
-// The first rank from `from` on that is below, of which there is one.
-fn least_over(from: usize, floor: u32, room: &[u32]) -> usize
-    requires { ⌜ Findable (now room) from floor ⌝ }
-    ensures { λ r. ⌜ LeastOver (now (room .entry)) from floor r ⌝ }
-{
-    let mut end = from;
-    while floor <= room[end] {
-        end += 1;
+        return end;
     }
     end
 }
 
-// A job with the volume p and the release a is visited; `from` is the first rank with its deadline.
-fn visit(from: usize, p: u16, a: u16, found: Found, room: &mut [u32]) -> Found
-    requires { ⌜ Takeable (now room) (found .lim) p ⌝ }
-    ensures { λ r. ⌜ Visited (now (room .entry)) (now (room .exit)) from p a (found .lim) (found .start) (r .lim) (r .start) ⌝ }
-{
-    let floor = SPARE + a as u32;
-    if take_from(from, found.lim, p as u32, floor, room) {
-        return Found {
-            lim: least_over(from, floor, room),
-            start: a,
-        };
-    }
-    found
-}
-
-// All jobs are visited.
-fn search(
+// From one event to the next: a rank comes, no rank waits, or the lowest is served until the next one comes or its last unit is done.
+fn turn(
+    last: Pass,
     h: u16,
     q: u16,
     releases: &[u16],
@@ -118,30 +86,114 @@ fn search(
     volumes: &[u16],
     order: &[u8],
     soon: &[u8],
-    first: &[u8],
-    room: &mut [u32],
-) -> Found
-    requires { ⌜ Searchable (jobsOf h q (now releases) (now deadlines) (now volumes)) (now order) (now soon) (now first) (now room) ⌝ }
-    ensures { λ r. ⌜ Searched (jobsOf h q (now (releases .entry)) (now (deadlines .entry)) (now (volumes .entry))) (now (order .entry)) (now (soon .entry)) (r .lim) (r .start) ⌝ }
+    left: &mut [u16],
+) -> Pass
+    requires { ⌜ Turnable (jobsOf h q (now releases) (now deadlines) (now volumes)) (now order) (now soon) (now left) (last .t) (last .waiting) (last .next) (last .coming) (last .end) ⌝ }
+    ensures { λ r. ⌜ Turned (jobsOf h q (now (releases .entry)) (now (deadlines .entry)) (now (volumes .entry))) (now (order .entry)) (now (soon .entry)) (now (left .entry)) (last .t) (last .next) (last .coming) (now (left .exit)) (r .t) (r .waiting) (r .next) (r .coming) (r .end) ⌝ }
 {
-    let mut found = Found {
-        lim: order.len(),
-        start: 0,
+    if last.coming <= last.t {
+        return arrive(last, releases, order, soon);
+    }
+    if last.waiting == 0 {
+        return Pass {
+            t: last.coming,
+            waiting: 0,
+            next: last.next,
+            coming: last.coming,
+            end: last.end,
+        };
+    }
+    let rank = u64::trailing_zeros(last.waiting);
+    let job = order[rank as usize] as usize;
+    let units = left[job] as u32;
+    let room = last.coming - last.t;
+    if room < units {
+        left[job] = (units - room) as u16;
+        return Pass {
+            t: last.coming,
+            waiting: last.waiting,
+            next: last.next,
+            coming: last.coming,
+            end: last.end,
+        };
+    }
+    left[job] = 0;
+    let t = last.t + units;
+    Pass {
+        t,
+        waiting: last.waiting - (1u64 << rank),
+        next: last.next,
+        coming: last.coming,
+        end: end_after(last.end, deadlines[job], t),
+    }
+}
+
+// The least end of an overloaded interval, or one behind the horizon.
+fn least_end(
+    h: u16,
+    q: u16,
+    releases: &[u16],
+    deadlines: &[u16],
+    volumes: &[u16],
+    order: &[u8],
+    soon: &[u8],
+) -> u16
+    requires { ⌜ Asked (jobsOf h q (now releases) (now deadlines) (now volumes)) (now order) (now soon) ⌝ }
+    ensures { λ r. ⌜ LeastEnd (jobsOf h q (now (releases .entry)) (now (deadlines .entry)) (now (volumes .entry))) r ⌝ }
+{
+    let mut left = serving::units(volumes);
+    let mut pass = Pass {
+        t: 0,
+        waiting: 0,
+        next: 0,
+        coming: comes_at(0, releases, order, soon),
+        end: NO_END,
     };
+    while pass.t < NEVER {
+        pass = turn(
+            pass,
+            h,
+            q,
+            releases,
+            deadlines,
+            volumes,
+            order,
+            soon,
+            &mut left,
+        );
+    }
+    pass.end
+}
+
+// The greatest release from which the jobs that are due by b overfill the slots up to b, or 0.
+fn start_for(
+    b: u16,
+    h: u16,
+    q: u16,
+    releases: &[u16],
+    deadlines: &[u16],
+    volumes: &[u16],
+    order: &[u8],
+    soon: &[u8],
+) -> usize
+    requires { ⌜ Asked (jobsOf h q (now releases) (now deadlines) (now volumes)) (now order) (now soon) ⌝ }
+    ensures { λ r. ⌜ r ≡ startOr 0 (startFor (jobsOf h q (now (releases .entry)) (now (deadlines .entry)) (now (volumes .entry))) b (falling (now (order .entry)) (now (soon .entry))) 0) ⌝ }
+{
+    let mut sum: u32 = 0;
     let mut at = soon.len();
     while 0 < at {
         at -= 1;
         let rank = soon[at] as usize;
         let job = order[rank] as usize;
-        found = visit(
-            first[rank] as usize,
-            volumes[job],
-            releases[job],
-            found,
-            room,
-        );
+        if deadlines[job] <= b {
+            sum += volumes[job] as u32;
+            let a = releases[job];
+            if ((b - a) as u32) < sum {
+                return a as usize;
+            }
+        }
     }
-    found
+    0
 }
 
 // The interval that step 1 shows, of a list that passes the checks, with its jobs by deadline and their ranks by release.
@@ -157,26 +209,13 @@ pub fn find(
     requires { ⌜ Passes (jobsOf h q (now releases) (now deadlines) (now volumes)) × Orders (now releases) (now deadlines) (now order) (now soon) ⌝ }
     ensures { λ r. ⌜ shownOf r ≡ shownOverload (jobsOf h q (now (releases .entry)) (now (deadlines .entry)) (now (volumes .entry))) ⌝ }
 {
-    let mut room = rooms(deadlines, order);
-    let first = firsts(order.len(), &room);
-    let found = search(
-        h,
-        q,
-        releases,
-        deadlines,
-        volumes,
-        order,
-        soon,
-        &first,
-        &mut room,
-    );
-    let end = found.lim;
-    if end < order.len() {
-        let job = order[end] as usize;
-        return Shown::At(Interval {
-            a: found.start as usize,
-            b: deadlines[job] as usize,
-        });
+    let end = least_end(h, q, releases, deadlines, volumes, order, soon);
+    if h < end {
+        return Shown::Nothing;
     }
-    Shown::Nothing
+    let start = start_for(end, h, q, releases, deadlines, volumes, order, soon);
+    Shown::At(Interval {
+        a: start,
+        b: end as usize,
+    })
 }

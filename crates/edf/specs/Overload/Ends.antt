@@ -17,11 +17,11 @@ use Rattle.edf.specs.Overload.{Overfull, Shown}
 
 -- the volume of a job counts inside a..b, or not
 
-counts : (c : Bool) (v : ℕ) → c ≡ true → _≡_ {A = ℕ} (elim c [ true ↦ v | false ↦ 0 ]) v
+pub counts : (c : Bool) (v : ℕ) → c ≡ true → _≡_ {A = ℕ} (elim c [ true ↦ v | false ↦ 0 ]) v
 counts true v e = refl
 counts false v e = true-not-false false e refl
 
-counts-not : (c : Bool) (v : ℕ) → c ≡ false → _≡_ {A = ℕ} (elim c [ true ↦ v | false ↦ 0 ]) 0
+pub counts-not : (c : Bool) (v : ℕ) → c ≡ false → _≡_ {A = ℕ} (elim c [ true ↦ v | false ↦ 0 ]) 0
 counts-not true v e = true-not-false true refl e
 counts-not false v e = refl
 

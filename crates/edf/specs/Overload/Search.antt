@@ -24,6 +24,11 @@ startFor J b (j ∷ js) sum =
       | true ↦ elim (ltb (b - release J j) (sum + volume J j)) [ true ↦ some (release J j) | false ↦ startFor J b js (sum + volume J j) ]
     ]
 
+-- the start, or x where there is none
+abbrev pub startOr : ℕ → Option ℕ → ℕ
+startOr x none = x
+startOr x (some a) = a
+
 -- what holds before the rest of the jobs is visited: no start above `top` was missed, the jobs of the rest are released at `top` or before, and
 -- a start up to there has the visited jobs inside as well as those of the rest
 pub record Visited (J : Jobs) (b : ℕ) (rest : List ℕ) (sum top : ℕ) : Type 0 where

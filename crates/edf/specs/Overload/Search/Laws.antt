@@ -17,7 +17,7 @@ use Rattle.edf.specs.Overload.{Overfull, Shows}
 use Rattle.edf.specs.Overload.Laws.{shows, shows-one}
 use Rattle.edf.specs.Overload.Ends.{volume-inside, volume-early, volume-late, to-deadline}
 use Rattle.edf.specs.Overload.Order.{AtMost, InOrder}
-use Rattle.edf.specs.Overload.Search.{startFor, Visited, Starts, Ending}
+use Rattle.edf.specs.Overload.Search.{startFor, startOr, Visited, Starts, Ending}
 
 -- jobs released before a have no volume inside
 all-early : (J : Jobs) (a b v : ℕ) (rest : List ℕ) → v < a → AtMost (release J) v rest → total (map (volumeIf J a b) rest) ≡ 0
@@ -136,3 +136,22 @@ module _ (J : Jobs) (p : Passes J) (order : List ℕ) (by-release : InOrder (rel
 
   pub ending-shown : (o : Option Interval) → Ending J order o → o ≡ shownOverload J
   ending-shown o s = shows-one J o (shownOverload J) (ending-shows o s) (shows J)
+
+  -- where no overloaded interval ends before b, but one ends there, the greatest start for b is shown
+  pub least-end-shown :
+      (a b : ℕ) → Overfull J a b → ((x y : ℕ) → y < b → Overfull J x y → ⊥) →
+      some (record { a = startOr 0 (startFor J b order 0); b = b }) ≡ shownOverload J
+  least-end-shown a b o n = go (startFor J b order 0) (start-for b (o .within))
+    where
+      go : (s : Option ℕ) → Starts J b s → some (record { a = startOr 0 s; b = b }) ≡ shownOverload J
+      go none h = absurd (h a o)
+      go (some s) (over, greatest) =
+          shows-one J (some (record { a = s; b = b })) (shownOverload J)
+          (record { over = over; least = λ x y w. least x y w (decLt y b); greatest = greatest }) (shows J)
+        where
+          least : (x y : ℕ) → Overfull J x y → Dec (y < b) → b ≤ y
+          least x y w (yes l) = absurd (n x y l w)
+          least x y w (no l) = omega arith
+
+pub no-end-shown : (J : Jobs) → ((a b : ℕ) → Overfull J a b → ⊥) → none ≡ shownOverload J
+no-end-shown J n = shows-one J none (shownOverload J) n (shows J)
