@@ -23,7 +23,7 @@ use Rattle.joblist.specs.Laws.Fields.{AreBytes}
 use Rattle.joblist.specs.Laws.Handed.{read-list}
 use Rattle.joblist.specs.Laws.Lists.{list-back, spelling-good, count-back, input-again, list-passes}
 use Rattle.joblist.specs.declared.ListHeader.{ListHeader}
-use Rattle.joblist.specs.declared.ListRead.the-variants.{Read, Refused}
+use Rattle.joblist.specs.declared.ListRead.the-variants.{Read}
 
 -- the reading that hands over just the list J, past which the lent lists keep their entries
 abbrev pub handsOver : Jobs → List ℕ → List ℕ → List ℕ → Reading

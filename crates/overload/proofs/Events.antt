@@ -1,7 +1,7 @@
 -- The events of the pass, one by one: a rank comes, no rank waits, the lowest is served.
-use Prim.Native.Nat.{ℕ, suc, _+_, _-_, _*_, _^_, _≤_, _<_}
+use Prim.Native.Nat.{ℕ, suc, _+_, _-_, _^_, _≤_, _<_}
 use mathlib.Core.Path.{_≡_, refl, sym, ap, subst, _∙_}
-use mathlib.Core.Bool.{true, false}
+use mathlib.Core.Bool.{true}
 use mathlib.Core.List.{List}
 use mathlib.Core.Logic.{_⊎_, inl, inr, _≢_}
 use native.Mathlib.Decide.{decLt, ℕ-discrete}
@@ -17,13 +17,13 @@ use Rattle.sched.specs.Jobs.{Jobs, count, release, deadline, volume}
 use Rattle.edf.specs.Search.{stateOf}
 use Rattle.edf.specs.Chain.{RankedJobs, jobAt}
 use Rattle.edf.specs.Overload.Late.{Ran, Stint, EndAfter}
-use Rattle.edf.specs.Overload.Late.Laws.{sum-more, ran-start, ran-idle, ran-stint, ran-through}
+use Rattle.edf.specs.Overload.Late.Laws.{sum-more, ran-idle, ran-stint}
 use Rattle.serving.specs.Arrivals.{comesAt, Arriving, waits, Come}
 use Rattle.serving.specs.Mask.{mask}
 use Rattle.serving.specs.Mask.Laws.{Joins, mask-joins, mask-alike, mask-lt}
 use Rattle.ranking.specs.Order.Both.{ranked-jobs, in-arrival}
 use Rattle.overload.specs.Search.{Asked}
-use Rattle.overload.specs.Pass.{never, Reachable, Coming, Arrivable, Arrived, Stands, Turnable, Turned, LeastEnd}
+use Rattle.overload.specs.Pass.{never, Reachable, Coming, Arrivable, Arrived, Stands, Turnable, Turned}
 use Rattle.overload.proofs.Waiting.{jobs-differ, waits-come, waits-units, waits-if, waits-not, comes-joins, no-bit, LeastOf, lowest-bit}
 
 module _ (J : Jobs) (order soon : List ℕ) (asked : Asked J order soon) where

@@ -1,4 +1,3 @@
-pub mod Marking
 pub mod Counting
 pub mod Sorting
 pub mod Climbing

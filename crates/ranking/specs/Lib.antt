@@ -1,5 +1,5 @@
--- The order of the jobs by a key, the marks by which they are sorted, and lists that are filled place by place.
+-- The order of the jobs by a key, where a job stands in it, and lists that are filled place by place.
 pub mod Order
-pub mod Marks
+pub mod Counts
 pub mod Fronts
 pub mod Placing

@@ -5,7 +5,7 @@ use lib.ListN.{getD}
 use lib.Count.{trailingZeros, trailing-le}
 use Rattle.overload.proofs.Waiting.{shifted}
 use Rattle.overload.proofs.Events.{can-arrive, arrive-turn, idle-turn, served-listed, served-rank, served-left, served-deadline, served-bit}
-use Rattle.overload.proofs.Events.{part-turn, finish-turn, finish-short}
+use Rattle.overload.proofs.Events.{part-turn, finish-turn}
 use Rattle.overload.proofs.turn.Statement.{statement}
 use Rattle.overload.proofs.turn.Tie as tie
 

@@ -4,7 +4,7 @@ use mathlib.Core.Path.{_≡_, refl, sym, ap, _∙_}
 use mathlib.Core.Bool.{Bool, true, false, _&&_, and-false}
 use mathlib.Core.Logic.{_⊎_, inl, inr, _≢_}
 use native.Mathlib.Omega.{arith}
-use native.Mathlib.Decide.{ℕ-discrete, decLe, decLt}
+use native.Mathlib.Decide.{ℕ-discrete, decLe}
 use borrow.Author.Tests.{le-leb, lt-leb}
 use lib.Dec.{leb}
 use Rattle.sched.specs.Bounded.{sumBelow}
@@ -14,7 +14,7 @@ use Rattle.sched.specs.Checks.{Passes}
 use Rattle.sched.specs.Overload.{volumeIf, volumeInside}
 use Rattle.edf.specs.Overload.{Overfull}
 use Rattle.edf.specs.Overload.Ends.{counts, counts-not}
-use Rattle.edf.specs.Overload.Late.{servedIf, servedInside, Busy, Ran, Stint, EndAfter}
+use Rattle.edf.specs.Overload.Late.{servedIf, servedInside, Busy, Ran, Stint}
 
 -- one term is more by y
 pub sum-more : (n : ℕ) (f g : ℕ → ℕ) (m y : ℕ) → m < n → g m ≡ f m + y → ((j : ℕ) → j ≢ m → g j ≡ f j) → sumBelow n g ≡ sumBelow n f + y
