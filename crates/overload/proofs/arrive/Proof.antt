@@ -1,5 +1,4 @@
 -- `overload::arrive` meets its contract.
-use native.Mathlib.Omega.{arith}
 use borrow.Author.Needs.{needs}
 use Rattle.overload.proofs.arrive.Statement.{statement}
 use Rattle.overload.proofs.arrive.Tie as tie
