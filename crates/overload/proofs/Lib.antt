@@ -1,6 +1,9 @@
 pub mod Starts
 pub mod Visiting
 pub mod Waiting
-pub mod Events
+pub mod Standing
+pub mod Comes
+pub mod Idles
+pub mod Serves
 pub mod Passing
 pub mod Showing

@@ -25,7 +25,9 @@ sum-most (suc n) f h = omega (arith, sum-most n f h, h n)
 
 module _ (J : Jobs) (order soon : List ℕ) (asked : Asked J order soon) where
   -- before slot 0 no rank has come
-  pub stands-start : (left : List ℕ) (coming : ℕ) → Units (J .volumes) left → Coming (J .releases) order soon 0 coming → ((j : ℕ) → volume J j < 65536) → Stands J order soon left 0 0 0 coming 65535
+  pub stands-start :
+      (left : List ℕ) (coming : ℕ) → Units (J .volumes) left → Coming (J .releases) order soon 0 coming →
+      ((j : ℕ) → volume J j < 65536) → Stands J order soon left 0 0 0 coming 65535
   unfolding anyBelow
   stands-start left coming u c small = record {
     asked = asked;
@@ -47,6 +49,8 @@ module _ (J : Jobs) (order soon : List ℕ) (asked : Asked J order soon) where
     done = λ l. absurd (omega arith);
   }
 
-pub stands-end : (J : Jobs) (order soon left : List ℕ) (t bits next coming end : ℕ) → Stands J order soon left t bits next coming end → never ≤ t → LeastEnd J end
+pub stands-end :
+    (J : Jobs) (order soon left : List ℕ) (t bits next coming end : ℕ) → Stands J order soon left t bits next coming end →
+    never ≤ t → LeastEnd J end
 stands-end J order soon left t bits next coming end s l =
     record { none = ran-through J (stateOf left) t end (s .ran) (s .done l); some = s .ran .late }

@@ -2,7 +2,7 @@
 use Prim.Native.Nat.{ℕ, _≤_, _<_}
 use mathlib.Core.Path.{_≡_, ap, _∙_}
 use mathlib.Core.List.{List}
-use mathlib.Core.Option.{Option, none, some}
+use mathlib.Core.Option.{none, some}
 use native.Mathlib.Omega.{arith}
 use Rattle.sched.specs.Jobs.{Jobs}
 use Rattle.sched.specs.Checks.{Passes}
@@ -20,7 +20,9 @@ module _ (J : Jobs) (end : ℕ) (e : LeastEnd J end) where
   shows-nothing l = no-end-shown J (λ a b o. e .none a b (omega (arith, o .within)) o)
 
   module _ (order soon : List ℕ) (p : Passes J) (orders : Orders (J .releases) (J .deadlines) order soon) where
-    pub shows-at : end ≤ J .horizon → (start : ℕ) → start ≡ startOr 0 (startFor J end (falling order soon) 0) → some (record { a = start; b = end }) ≡ shownOverload J
+    pub shows-at :
+        end ≤ J .horizon → (start : ℕ) → start ≡ startOr 0 (startFor J end (falling order soon) 0) →
+        some (record { a = start; b = end }) ≡ shownOverload J
     shows-at l start q =
         let over = e .some l in
         ap (λ (a : ℕ). some (shown a)) q

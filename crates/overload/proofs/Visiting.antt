@@ -2,7 +2,10 @@
 use Prim.Native.Nat.{ℕ, _+_, _-_, _*_, _≤_, _<_}
 use mathlib.Core.Path.{_≡_, sym, ap, _∙_}
 use mathlib.Core.List.{List, _∷_}
+<<<<<<< HEAD
 use mathlib.Core.Option.{Option}
+=======
+>>>>>>> late
 use native.Mathlib.Omega.{arith}
 use lib.ListN.{length, take}
 use lib.Seq.{take-length}
@@ -76,7 +79,9 @@ module _ (J : Jobs) (b : ℕ) (order soon : List ℕ) where
             rest = first ∙ start-late J b job (falling order (take (at - 1) soon)) sum l;
           }
 
-      pub visit-next : deadline J job ≤ b → volume J job < 65536 → sum + volume J job ≤ b - release J job → Visiting J b order soon (sum + volume J job) (at - 1)
+      pub visit-next :
+          deadline J job ≤ b → volume J job < 65536 → sum + volume J job ≤ b - release J job →
+          Visiting J b order soon (sum + volume J job) (at - 1)
       visit-next l w m =
           record {
             asked = v .asked;
@@ -85,5 +90,7 @@ module _ (J : Jobs) (b : ℕ) (order soon : List ℕ) where
             rest = first ∙ start-next J b job (falling order (take (at - 1) soon)) sum l m;
           }
 
-      pub visit-found : deadline J job ≤ b → b - release J job < sum + volume J job → release J job ≡ startOr 0 (startFor J b (falling order soon) 0)
+      pub visit-found :
+          deadline J job ≤ b → b - release J job < sum + volume J job →
+          release J job ≡ startOr 0 (startFor J b (falling order soon) 0)
       visit-found l m = sym (ap (startOr 0) (first ∙ start-found J b job (falling order (take (at - 1) soon)) sum l m))

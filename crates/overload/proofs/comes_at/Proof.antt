@@ -16,10 +16,14 @@ shared-slice-read-job : tie.Need-shared-slice-read-job
 shared-slice-read-job c = c .before .before .before .pre .each _ (c .before .before .if1 .taken) .rank
 
 cast-job : tie.Need-cast-job
-cast-job c = omega (arith, c .shared-slice-known2 .given (getD (now (c .before .before .before .args .soon)) (c .before .before .before .args .i) 0))
+cast-job c =
+    let a = c .before .before .before .args in
+    omega (arith, c .shared-slice-known2 .given (getD (now (a .soon)) (a .i) 0))
 
 mul-result : tie.Need-mul-result
-mul-result c = omega (arith, c .shared-slice-known2 .given (getD (now (c .before .before .before .args .soon)) (c .before .before .before .args .i) 0))
+mul-result c =
+    let a = c .before .before .before .args in
+    omega (arith, c .shared-slice-known2 .given (getD (now (a .soon)) (a .i) 0))
 
 shared-slice-read-result : tie.Need-shared-slice-read-result
 shared-slice-read-result c = c .before .before .before .before .pre .each _ (c .before .before .before .if1 .taken) .job

@@ -3,7 +3,7 @@ use native.Mathlib.Omega.{arith}
 use borrow.Author.Needs.{needs}
 use Rattle.sched.specs.Jobs.{jobsOf}
 use Rattle.overload.specs.Pass.{Stands, rest}
-use Rattle.overload.proofs.Events.{reachable}
+use Rattle.overload.proofs.Standing.{reachable}
 use Rattle.overload.proofs.Passing.{stands-start, stands-end}
 use Rattle.overload.proofs.least_end.Statement.{statement}
 use Rattle.overload.proofs.least_end.Tie as tie

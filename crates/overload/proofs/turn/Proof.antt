@@ -4,22 +4,36 @@ use borrow.Author.Needs.{needs}
 use lib.ListN.{getD}
 use lib.Count.{trailingZeros, trailing-le}
 use Rattle.overload.proofs.Waiting.{shifted}
+<<<<<<< HEAD
 use Rattle.overload.proofs.Events.{can-arrive, arrive-turn, idle-turn, served-listed, served-rank, served-left, served-deadline, served-bit}
 use Rattle.overload.proofs.Events.{part-turn, finish-turn}
+=======
+use Rattle.overload.proofs.Comes.{can-arrive, arrive-turn}
+use Rattle.overload.proofs.Idles.{idle-turn}
+use Rattle.overload.proofs.Serves.{served-listed, served-rank, served-left, served-deadline, served-bit, part-turn, finish-turn}
+>>>>>>> late
 use Rattle.overload.proofs.turn.Statement.{statement}
 use Rattle.overload.proofs.turn.Tie as tie
 
 arrive-requires : tie.Need-arrive-requires
-arrive-requires c κs = can-arrive _ _ _ _ _ _ _ _ _ (c .before .before .before .before .before .before .before .before .pre) (c .if1 .taken)
+arrive-requires c κs =
+    let s = c .before .before .before .before .before .before .before .before in
+    can-arrive _ _ _ _ _ _ _ _ _ (s .pre) (omega (arith, c .if1 .taken))
 
 returns : tie.Need-returns
-returns c = arrive-turn _ _ _ _ _ _ _ _ _ (c .before .before .before .before .before .before .before .before .before .pre) (c .before .if1 .taken) _ _ _ _ _ (c .arrive .ensures)
+returns c =
+    let s = c .before .before .before .before .before .before .before .before .before in
+    arrive-turn _ _ _ _ _ _ _ _ _ (s .pre) (omega (arith, c .before .if1 .taken)) _ _ _ _ _ (c .arrive .ensures)
 
 returns-2 : tie.Need-returns-2
-returns-2 c = idle-turn _ _ _ _ _ _ _ _ _ (c .before .before .before .before .before .before .before .before .before .before .pre) (c .before .before .if1 .left) (c .if2 .taken)
+returns-2 c =
+    let s = c .before .before .before .before .before .before .before .before .before .before in
+    idle-turn _ _ _ _ _ _ _ _ _ (s .pre .stands) (omega (arith, c .before .before .if1 .left)) (c .if2 .taken)
 
 cast-job : tie.Need-cast-job
-cast-job c = record { fits = omega (arith, trailing-le 64 (c .before .before .before .before .before .before .before .before .before .before .before .args .last .waiting)) }
+cast-job c =
+    let s = c .before .before .before .before .before .before .before .before .before .before .before in
+    record { fits = omega (arith, trailing-le 64 (s .args .last .waiting)) }
 
 shared-slice-read-job : tie.Need-shared-slice-read-job
 shared-slice-read-job c =
@@ -28,10 +42,14 @@ shared-slice-read-job c =
     served-listed _ _ _ _ _ _ _ _ _ (s .pre) (e .if2 .left)
 
 cast-job-2 : tie.Need-cast-job-2
-cast-job-2 c = omega (arith, c .shared-slice-known6 .given (trailingZeros 64 (c .before .before .before .before .before .before .before .before .before .before .before .before .args .last .waiting)))
+cast-job-2 c =
+    let s = c .before .before .before .before .before .before .before .before .before .before .before .before in
+    omega (arith, c .shared-slice-known6 .given (trailingZeros 64 (s .args .last .waiting)))
 
 mul-units : tie.Need-mul-units
-mul-units c = omega (arith, c .shared-slice-known6 .given (trailingZeros 64 (c .before .before .before .before .before .before .before .before .before .before .before .before .args .last .waiting)))
+mul-units c =
+    let s = c .before .before .before .before .before .before .before .before .before .before .before .before in
+    omega (arith, c .shared-slice-known6 .given (trailingZeros 64 (s .args .last .waiting)))
 
 slice-read-units : tie.Need-slice-read-units
 slice-read-units c =
@@ -41,8 +59,8 @@ slice-read-units c =
 
 cast-units : tie.Need-cast-units
 cast-units c =
-    let a = c .before .before .before .before .before .before .before .before .before .before .before .before .before .args in
-    omega (arith, c .slice-known2 .given (getD (a .order .now) (trailingZeros 64 (a .last .waiting)) 0))
+    let s = c .before .before .before .before .before .before .before .before .before .before .before .before .before in
+    omega (arith, c .slice-known2 .given (getD (s .args .order .now) (trailingZeros 64 (s .args .last .waiting)) 0))
 
 sub-room : tie.Need-sub-room
 sub-room c = search needs
@@ -52,11 +70,13 @@ sub-left c = search needs
 
 cast-left : tie.Need-cast-left
 cast-left c =
-    let a = c .before .before .before .before .before .before .before .before .before .before .before .before .before .before .before .args in
-    omega (arith, c .before .before .slice-known2 .given (getD (a .order .now) (trailingZeros 64 (a .last .waiting)) 0))
+    let s = c .before .before .before .before .before .before .before .before .before .before .before .before .before .before .before in
+    omega (arith, c .before .before .slice-known2 .given (getD (s .args .order .now) (trailingZeros 64 (s .args .last .waiting)) 0))
 
 mul-left : tie.Need-mul-left
-mul-left c = omega (arith, c .before .before .before .shared-slice-known6 .given (trailingZeros 64 (c .before .before .before .before .before .before .before .before .before .before .before .before .before .before .before .args .last .waiting)))
+mul-left c =
+    let s = c .before .before .before .before .before .before .before .before .before .before .before .before .before .before .before in
+    omega (arith, c .before .before .before .shared-slice-known6 .given (trailingZeros 64 (s .args .last .waiting)))
 
 slice-write-left : tie.Need-slice-write-left
 slice-write-left c =
@@ -71,10 +91,12 @@ returns-3 : tie.Need-returns-3
 returns-3 c =
     let e = c .before .before .before .before .before in
     let s = e .before .before .before .before .before .before .before .before .before .before in
-    part-turn _ _ _ _ _ _ _ _ _ (s .pre) (e .if2 .left) (e .before .before .if1 .left) (c .if3 .taken)
+    part-turn _ _ _ _ _ _ _ _ _ (s .pre) (e .if2 .left) (omega (arith, e .before .before .if1 .left)) (omega (arith, c .if3 .taken))
 
 mul-left-2 : tie.Need-mul-left-2
-mul-left-2 c = omega (arith, c .before .before .before .shared-slice-known6 .given (trailingZeros 64 (c .before .before .before .before .before .before .before .before .before .before .before .before .before .before .before .args .last .waiting)))
+mul-left-2 c =
+    let s = c .before .before .before .before .before .before .before .before .before .before .before .before .before .before .before in
+    omega (arith, c .before .before .before .shared-slice-known6 .given (trailingZeros 64 (s .args .last .waiting)))
 
 slice-write-left-2 : tie.Need-slice-write-left-2
 slice-write-left-2 c =
@@ -86,7 +108,9 @@ add-t : tie.Need-add-t
 add-t c = search needs
 
 cast-t26 : tie.Need-cast-t26
-cast-t26 c = record { fits = omega (arith, trailing-le 64 (c .before .before .before .before .before .before .before .before .before .before .before .before .before .before .before .before .args .last .waiting)) }
+cast-t26 c =
+    let s = c .before .before .before .before .before .before .before .before .before .before .before .before .before .before .before .before in
+    record { fits = omega (arith, trailing-le 64 (s .args .last .waiting)) }
 
 shl-t27 : tie.Need-shl-t27
 shl-t27 c =
@@ -101,7 +125,10 @@ sub-t28 c =
     rw (shifted _ (served-rank _ _ _ _ _ _ _ _ _ (s .pre) (e .if2 .left))) (served-bit _ _ _ _ _ _ _ _ _ (s .pre) (e .if2 .left))
 
 mul-end-after : tie.Need-mul-end-after
-mul-end-after c = omega (arith, c .before .before .before .before .before .shared-slice-known6 .given (trailingZeros 64 (c .before .before .before .before .before .before .before .before .before .before .before .before .before .before .before .before .before .args .last .waiting)))
+mul-end-after c =
+    let k = c .before .before .before .before .before in
+    let s = k .before .before .before .before .before .before .before .before .before .before .before .before in
+    omega (arith, k .shared-slice-known6 .given (trailingZeros 64 (s .args .last .waiting)))
 
 shared-slice-read-end-after : tie.Need-shared-slice-read-end-after
 shared-slice-read-end-after c =
@@ -119,8 +146,9 @@ returns-4 : tie.Need-returns-4
 returns-4 c =
     let e = c .before .before .before .before .before .before .before .before .before in
     let s = e .before .before .before .before .before .before .before .before .before .before in
-    finish-turn _ _ _ _ _ _ _ _ _ (s .pre) (e .if2 .left) _ _ (shifted _ (served-rank _ _ _ _ _ _ _ _ _ (s .pre) (e .if2 .left)))
-    (e .before .before .if1 .left) (c .before .before .before .before .if3 .left) (c .end-after .ensures)
+    let bit = shifted _ (served-rank _ _ _ _ _ _ _ _ _ (s .pre) (e .if2 .left)) in
+    finish-turn _ _ _ _ _ _ _ _ _ (s .pre) (e .if2 .left) _ _ bit (omega (arith, e .before .before .if1 .left))
+    (omega (arith, c .before .before .before .before .if3 .left)) (c .end-after .ensures)
 
 pub turn-spec : {M : Type 1} → statement M
 turn-spec =

@@ -22,7 +22,9 @@ unfolding sumBelow
 sum-more zero f g m y l e h = absurd (omega arith)
 sum-more (suc n) f g m y l e h = go (ℕ-discrete n m) (sum-more n f g m y)
   where
-    go : Dec (n ≡ m) → (m < n → g m ≡ f m + y → ((j : ℕ) → j ≢ m → g j ≡ f j) → sumBelow n g ≡ sumBelow n f + y) → sumBelow n g + g n ≡ sumBelow n f + f n + y
+    go :
+        Dec (n ≡ m) → (m < n → g m ≡ f m + y → ((j : ℕ) → j ≢ m → g j ≡ f j) → sumBelow n g ≡ sumBelow n f + y) →
+        sumBelow n g + g n ≡ sumBelow n f + f n + y
     go (yes q) ih =
         let rest = sum-ext n g f (λ i b. h i (λ z. omega arith)) in
         omega (arith, rest, e, ap g q, ap f q)
@@ -31,7 +33,9 @@ sum-more (suc n) f g m y l e h = go (ℕ-discrete n m) (sum-more n f g m y)
 module _ (J : Jobs) (L : ℕ → ℕ) (a b j : ℕ) where
   served-inside : a ≤ release J j → deadline J j ≤ b → servedIf J L a b j ≡ volume J j - L j
   unfolding servedIf
-  served-inside l m = counts (leb a (release J j) && leb (deadline J j) b) (volume J j - L j) (rw (le-leb a (release J j) l, le-leb (deadline J j) b m))
+  served-inside l m =
+      counts (leb a (release J j) && leb (deadline J j) b) (volume J j - L j)
+      (rw (le-leb a (release J j) l, le-leb (deadline J j) b m))
 
   served-early : release J j < a → servedIf J L a b j ≡ 0
   unfolding servedIf
@@ -39,7 +43,9 @@ module _ (J : Jobs) (L : ℕ → ℕ) (a b j : ℕ) where
 
   served-late : b < deadline J j → servedIf J L a b j ≡ 0
   unfolding servedIf
-  served-late l = counts-not (leb a (release J j) && leb (deadline J j) b) (volume J j - L j) (rw (lt-leb (deadline J j) b l, and-false (leb a (release J j))))
+  served-late l =
+      counts-not (leb a (release J j) && leb (deadline J j) b) (volume J j - L j)
+      (rw (lt-leb (deadline J j) b l, and-false (leb a (release J j))))
 
   served-some : (v : ℕ) → volume J j - L j ≡ v → servedIf J L a b j ≡ elim (leb a (release J j) && leb (deadline J j) b) [ true ↦ v | false ↦ 0 ]
   unfolding servedIf
@@ -160,7 +166,9 @@ module _ (J : Jobs) (L L′ : ℕ → ℕ) (t m x end end′ : ℕ) (p : Passes 
           go true = omega arith
           go false = omega arith
 
-  module _ (fewer : end′ ≤ end) (passed : L′ m ≡ 0 → deadline J m < t + x → end′ ≤ deadline J m) (either : (end′ ≡ end) ⊎ ((end′ ≡ deadline J m) × (deadline J m < t + x))) where
+  module _
+      (fewer : end′ ≤ end) (passed : L′ m ≡ 0 → deadline J m < t + x → end′ ≤ deadline J m)
+      (either : (end′ ≡ end) ⊎ ((end′ ≡ deadline J m) × (deadline J m < t + x))) where
     in-time : (a b : ℕ) → b < end′ → ((j : ℕ) → j < count J → 0 < L′ j → deadline J j ≤ b → t + x ≤ release J j) → servedInside J L′ a b ≤ b - a
     in-time a b l h = go (decLe (deadline J m) b)
       where
