@@ -4,14 +4,9 @@ use borrow.Author.Needs.{needs}
 use lib.ListN.{getD}
 use lib.Count.{trailingZeros, trailing-le}
 use Rattle.overload.proofs.Waiting.{shifted}
-<<<<<<< HEAD
-use Rattle.overload.proofs.Events.{can-arrive, arrive-turn, idle-turn, served-listed, served-rank, served-left, served-deadline, served-bit}
-use Rattle.overload.proofs.Events.{part-turn, finish-turn}
-=======
 use Rattle.overload.proofs.Comes.{can-arrive, arrive-turn}
 use Rattle.overload.proofs.Idles.{idle-turn}
 use Rattle.overload.proofs.Serves.{served-listed, served-rank, served-left, served-deadline, served-bit, part-turn, finish-turn}
->>>>>>> late
 use Rattle.overload.proofs.turn.Statement.{statement}
 use Rattle.overload.proofs.turn.Tie as tie
 
