@@ -28,12 +28,13 @@ use Rattle.edf.specs.Whole.{run-greatest, search-finds-run, served-and-l
 use Rattle.edf.specs.Sets.{touching, skeleton-windows}
 use Rattle.edf.specs.Woken.{woken-worth, lacks-if-helps, helps-if-carried, helped-before}
 use Rattle.edf.specs.Room.{no-overload-fits}
+use Rattle.edf.specs.Overload.{Overfull}
 use Rattle.edf.specs.Overload.Counting.{feasible-no-overload}
 use Rattle.edf.specs.Overload.Laws.{shown-some}
 use Rattle.edf.specs.Overload.Ends.{shown-deadline, shown-release}
 use Rattle.edf.specs.Overload.Order.{InOrder}
-use Rattle.edf.specs.Overload.Search.{Ending}
-use Rattle.edf.specs.Overload.Search.Laws.{ending-shown}
+use Rattle.edf.specs.Overload.Search.{startFor, startOr}
+use Rattle.edf.specs.Overload.Search.Laws.{least-end-shown}
 
 -- The workable volume
 
@@ -133,9 +134,8 @@ pub shown-ends : (J : Jobs) (i : Interval) → Passes J → shownOverload J ≡ 
     ((k : ℕ) × (k < count J) × (release J k ≡ i .a)) × ((k : ℕ) × (k < count J) × (deadline J k ≡ i .b))
 shown-ends J i p e = let s = shown-some J i e in (shown-release J p i s, shown-deadline J p i s)
 
--- So a search over releases and deadlines finds it, with the jobs in any order by falling release: it is the least deadline for which the volumes,
--- added up in this order, exceed the slots from some release on, and the first such release.
+-- So the least end of an overloaded interval is enough: with the jobs in any order by falling release, their volumes added up tell its start.
 pub search-finds-shown :
-    (J : Jobs) (order : List ℕ) (found : Option Interval) → Passes J → InOrder (release J) (count J) order →
-    Ending J order found → found ≡ shownOverload J
-search-finds-shown J order found p o e = ending-shown J p order o found e
+    (J : Jobs) (order : List ℕ) (a b : ℕ) → Passes J → InOrder (release J) (count J) order → Overfull J a b →
+    ((x y : ℕ) → y < b → Overfull J x y → ⊥) → some (record { a = startOr 0 (startFor J b order 0); b = b }) ≡ shownOverload J
+search-finds-shown J order a b p o over least = least-end-shown J p order o a b over least

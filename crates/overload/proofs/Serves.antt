@@ -13,12 +13,12 @@ use Rattle.sched.specs.Bounded.{sumBelow}
 use Rattle.sched.specs.Jobs.{Jobs, count, release, deadline}
 use Rattle.edf.specs.Search.{stateOf}
 use Rattle.edf.specs.Chain.{RankedJobs, jobAt}
-use Rattle.edf.specs.Overload.Late.{Ran, Stint, EndAfter}
+use Rattle.edf.specs.Overload.Late.{Ran, Stint}
 use Rattle.edf.specs.Overload.Late.Laws.{sum-more, ran-stint}
 use Rattle.serving.specs.Arrivals.{Arriving, waits}
 use Rattle.serving.specs.Mask.{mask}
 use Rattle.serving.specs.Mask.Laws.{Joins, mask-joins, mask-alike}
-use Rattle.overload.specs.Pass.{never, Stands, Turnable, Turned}
+use Rattle.overload.specs.Pass.{EndAfter, never, Stands, Turnable, Turned}
 use Rattle.overload.proofs.Waiting.{jobs-differ, waits-come, waits-units, waits-if, waits-not, LeastOf, lowest-bit}
 use Rattle.overload.proofs.Standing.{in-order, by-rank, Waits, still}
 

@@ -2,6 +2,7 @@
 use Prim.Native.Nat.{ℕ, _+_, _-_, _*_, _^_, _≤_, _<_, min}
 use mathlib.Core.Path.{_≡_}
 use mathlib.Core.List.{List}
+use mathlib.Core.Logic.{_⊎_}
 use lib.ListN.{length, getD}
 use Rattle.sched.specs.Bounded.{sumBelow}
 use Rattle.sched.specs.Jobs.{Jobs, count, volume}
@@ -40,6 +41,12 @@ pub record Arrived (releases order soon : List ℕ) (t bits next end t′ bits�
   pub next-is : next′ ≡ next + 1
   pub coming-is : Coming releases order soon next′ coming′
   pub end-is : end′ ≡ end
+
+-- the end after a job with the deadline d is finished at t
+pub record EndAfter (end d t end′ : ℕ) : Type 0 where
+  pub least : end′ ≤ end
+  pub passed : d < t → end′ ≤ d
+  pub either : (end′ ≡ end) ⊎ ((end′ ≡ d) × (d < t))
 
 -- the slots before t are served, and the bits are the ranks that wait
 pub record Stands (J : Jobs) (order soon left : List ℕ) (t bits next coming end : ℕ) : Type 0 where

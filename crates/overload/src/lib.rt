@@ -7,10 +7,9 @@ ghost use Rattle.sched.specs.Jobs.{jobsOf};
 ghost use Rattle.sched.specs.Checks.{Passes};
 ghost use Rattle.sched.specs.Overload.{shownOverload};
 ghost use Rattle.edf.specs.Overload.Search.{startFor, startOr};
-ghost use Rattle.edf.specs.Overload.Late.{EndAfter};
 ghost use Rattle.ranking.specs.Order.{Orders};
 ghost use Rattle.overload.specs.Search.{shownOf, falling, Asked};
-ghost use Rattle.overload.specs.Pass.{Reachable, Coming, Arrivable, Arrived, Turnable, Turned, LeastEnd};
+ghost use Rattle.overload.specs.Pass.{Reachable, Coming, Arrivable, Arrived, EndAfter, Turnable, Turned, LeastEnd};
 
 // A slot behind every other.
 const NEVER: u32 = 16777216;

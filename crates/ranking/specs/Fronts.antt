@@ -1,6 +1,6 @@
 -- The front of an array, lent and given back: a function that fills n entries of a local array lends `a[..n]`, and reads it there later.
 use Prim.Native.Nat.{ℕ, _≤_, _<_}
-use mathlib.Core.Path.{_≡_, ap, sym, subst, _∙_}
+use mathlib.Core.Path.{_≡_, ap, sym, _∙_}
 use mathlib.Core.List.{List, _++_}
 use native.Mathlib.Omega.{arith}
 use lib.ListN.{length, getD, take, drop, replicate, length-append, length-drop}
@@ -26,9 +26,6 @@ module _ (n : ℕ) (l s : List ℕ) (fits : n ≤ length l) (kept : length s ≡
 
   pub filled-front : take n (s ++ drop n l) ≡ s
   filled-front = take-at s (drop n l) n filled-length
-
-  pub filled-with : (P : List ℕ → Type 0) → P s → P (take n (s ++ drop n l))
-  filled-with P p = subst P (sym filled-front) p
 
   pub filled-at : (k : ℕ) → k < n → getD (s ++ drop n l) k 0 ≡ getD s k 0
   filled-at k m = sym (getD-take n (s ++ drop n l) k 0 m) ∙ ap (λ (r : List ℕ). getD r k 0) filled-front

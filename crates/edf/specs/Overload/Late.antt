@@ -41,9 +41,3 @@ pub record Stint (J : Jobs) (L L′ : ℕ → ℕ) (t m x : ℕ) : Type 0 where
   pub units : L′ m + x ≡ L m
   pub same : (j : ℕ) → j ≢ m → L′ j ≡ L j
   pub first : (j : ℕ) → j < count J → 0 < L j → (deadline J m ≤ deadline J j) ⊎ (t + x ≤ release J j)
-
--- the end after a job with the deadline d is finished at t
-pub record EndAfter (end d t end′ : ℕ) : Type 0 where
-  pub least : end′ ≤ end
-  pub passed : d < t → end′ ≤ d
-  pub either : (end′ ≡ end) ⊎ ((end′ ≡ d) × (d < t))

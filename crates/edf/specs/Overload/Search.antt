@@ -1,6 +1,5 @@
--- The shown interval by n² steps: only a job's deadline can be its end, and for an end b only the release of a job with d ≤ b its start. For
--- each b the jobs are visited by falling release, and the volumes of those with d ≤ b added up, until they exceed the slots from the
--- release to b.
+-- The greatest start for an end b: only the release of a job with d ≤ b can be one. The jobs are visited by falling release, and the volumes of those
+-- with d ≤ b added up, until they exceed the slots from the release to b.
 use Prim.Native.Nat.{ℕ, suc, _+_, _-_, _≤_, _<_}
 use mathlib.Core.Path.{_≡_}
 use mathlib.Core.Bool.{true, false}
@@ -43,14 +42,3 @@ pub record Visited (J : Jobs) (b : ℕ) (rest : List ℕ) (sum top : ℕ) : Type
 abbrev pub Starts : Jobs → ℕ → Option ℕ → Type 0
 Starts J b none = (a : ℕ) → Overfull J a b → ⊥
 Starts J b (some a) = Overfull J a b × ((x : ℕ) → Overfull J x b → x ≤ a)
-
--- the jobs in this order give i: its start is the greatest for its end, and no job ends earlier with a start
-pub record FirstEnd (J : Jobs) (order : List ℕ) (i : Interval) : Type 0 where
-  pub within : i .b ≤ J .horizon
-  pub start : startFor J (i .b) order 0 ≡ some (i .a)
-  pub least : (k : ℕ) → k < count J → deadline J k < i .b → startFor J (deadline J k) order 0 ≡ none
-
--- what an answer says of the deadlines of the jobs and of the starts for them
-abbrev pub Ending : Jobs → List ℕ → Option Interval → Type 0
-Ending J order none = (k : ℕ) → k < count J → startFor J (deadline J k) order 0 ≡ none
-Ending J order (some i) = FirstEnd J order i

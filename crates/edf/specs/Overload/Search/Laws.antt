@@ -1,6 +1,6 @@
 -- The least deadline with a start, and the start, are the interval that 01 shows.
 use Prim.Native.Nat.{ℕ, suc, _+_, _-_, _≤_, _<_}
-use mathlib.Core.Path.{_≡_, refl, subst}
+use mathlib.Core.Path.{_≡_, refl}
 use mathlib.Core.Bool.{Bool, true, false}
 use mathlib.Core.List.{List, [], _∷_, map}
 use mathlib.Core.Option.{Option, none, some}
@@ -13,11 +13,11 @@ use Rattle.sched.specs.Jobs.{Jobs, count, release, deadline, volume}
 use Rattle.sched.specs.Checks.{Passes}
 use Rattle.sched.specs.Overload.{volumeIf, volumeInside, shownOverload}
 use Rattle.sched.specs.declared.Interval.{Interval}
-use Rattle.edf.specs.Overload.{Overfull, Shows}
+use Rattle.edf.specs.Overload.{Overfull}
 use Rattle.edf.specs.Overload.Laws.{shows, shows-one}
-use Rattle.edf.specs.Overload.Ends.{volume-inside, volume-early, volume-late, to-deadline}
+use Rattle.edf.specs.Overload.Ends.{volume-inside, volume-early, volume-late}
 use Rattle.edf.specs.Overload.Order.{AtMost, InOrder}
-use Rattle.edf.specs.Overload.Search.{startFor, startOr, Visited, Starts, Ending}
+use Rattle.edf.specs.Overload.Search.{startFor, startOr, Visited, Starts}
 
 -- jobs released before a have no volume inside
 all-early : (J : Jobs) (a b v : ℕ) (rest : List ℕ) → v < a → AtMost (release J) v rest → total (map (volumeIf J a b) rest) ≡ 0
@@ -113,29 +113,6 @@ module _ (J : Jobs) (p : Passes J) (order : List ℕ) (by-release : InOrder (rel
         later = λ a l o. omega (arith, o .span);
         inside = λ a l. omega (arith, by-release .once (volumeIf J a b));
       })
-
-  -- an end without a start has no overfull interval
-  no-start : (b : ℕ) → b ≤ J .horizon → startFor J b order 0 ≡ none → (a : ℕ) → Overfull J a b → ⊥
-  no-start b within e = subst (Starts J b) e (start-for b within)
-
-  -- the ends of all jobs are all that matter
-  ending-shows : (o : Option Interval) → Ending J order o → Shows J o
-  ending-shows none s = λ a b o.
-      let r = to-deadline J p a b o in
-      no-start (deadline J (r .0)) (p .good (r .0) (r .1) .within) (s (r .0) (r .1)) a (r .3)
-  ending-shows (some i) s =
-      let starts : Starts J (i .b) (some (i .a)) = subst (Starts J (i .b)) (s .start) (start-for (i .b) (s .within)) in
-      record { over = starts .0; least = λ a b o. least a b (to-deadline J p a b o); greatest = starts .1 }
-    where
-      least : (a b : ℕ) → ((k : ℕ) × (k < count J) × (deadline J k ≤ b) × Overfull J a (deadline J k)) → i .b ≤ b
-      least a b (k, l, m, o) = go (decLt (deadline J k) (i .b))
-        where
-          go : Dec (deadline J k < i .b) → i .b ≤ b
-          go (yes n) = absurd (no-start (deadline J k) (p .good k l .within) (s .least k l n) a o)
-          go (no n) = omega arith
-
-  pub ending-shown : (o : Option Interval) → Ending J order o → o ≡ shownOverload J
-  ending-shown o s = shows-one J o (shownOverload J) (ending-shows o s) (shows J)
 
   -- where no overloaded interval ends before b, but one ends there, the greatest start for b is shown
   pub least-end-shown :
