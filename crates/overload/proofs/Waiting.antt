@@ -1,17 +1,15 @@
 -- Which ranks wait: those that have come and have units left. How they change when a rank comes, and what their bits say.
-use Prim.Native.Nat.{ℕ, suc, _*_, _%_, _^_, _≤_, _<_}
+use Prim.Native.Nat.{ℕ, suc, _≤_, _<_}
 use mathlib.Core.Path.{_≡_, refl, sym, ap, subst, _∙_}
 use mathlib.Core.Bool.{Bool, true, false, _&&_, _||_, and-false}
 use mathlib.Core.List.{List}
 use mathlib.Core.Logic.{_≢_}
 use mathlib.Core.Option.{Option, none, some}
 use native.Mathlib.Decide.{decLt}
-use native.Mathlib.Nat.{one-mul, mod-eq-of-lt}
 use native.Mathlib.Omega.{arith}
 use borrow.Author.Tests.{le-leb, lt-ltb, le-ltb, ltb-true, eq-eqb, ne-eqb, eqb-true}
 use lib.ListN.{getD}
 use lib.Dec.{leb, ltb}
-use lib.Pow.{pow-lt}
 use lib.Count.{trailingZeros}
 use Rattle.sched.specs.Bounded.{anyBelow, leastFrom}
 use Rattle.sched.specs.Bounded.Laws.{true-not-false, and-true, any-intro, any-elim, any-refute, least-some, least-none}
@@ -21,10 +19,6 @@ use Rattle.edf.specs.Chain.{RankedJobs, jobAt}
 use Rattle.serving.specs.Arrivals.{come, waits}
 use Rattle.serving.specs.Mask.{mask}
 use Rattle.serving.specs.Mask.Laws.{Joins, zeros-some, empty-none, some-pos}
-
--- a shifted one is the power of two
-pub shifted : (k : ℕ) → k < 64 → 1 * 2 ^ k % 2 ^ 64 ≡ 2 ^ k
-shifted k l = simp one-mul (mod-eq-of-lt (pow-lt {i = k} {j = 64} l))
 
 -- two ranks have two jobs
 pub jobs-differ : (J : Jobs) (order : List ℕ) → RankedJobs J order → (i k : ℕ) → i < count J → k < count J → i ≢ k → jobAt order i ≢ jobAt order k

@@ -9,20 +9,17 @@ use borrow.Author.Tests.{eq-eqb, ne-eqb, lt-ltb, le-leb, lt-leb}
 use lib.ListN.{getD, set}
 use lib.Seq.{getD-set-same}
 use lib.Dec.{leb, ltb}
-use lib.Pow.{pow-lt, pow-mono}
+use lib.Pow.{pow-mono}
 use lib.Count.{trailingZeros}
 use Rattle.sched.specs.Slots.{idle}
 use Rattle.serving.specs.Mask.{bit}
+use Rattle.serving.specs.Mask.Laws.{shifted}
 use Rattle.serving.specs.Ranks.{lowest, servedByte, servedLeft, servedBits, CanServe}
 use Rattle.serving.specs.Runs.{Serves}
 
 -- what is not 0 is above it
 pub pos-ltb : (x : ℕ) → (x ≡ 0 → ⊥) → ltb 0 x ≡ true
 pos-ltb x n = lt-ltb 0 x (omega arith)
-
--- a shifted one is the power of two
-pub shifted : (k : ℕ) → k < 64 → 1 * 2 ^ k % 2 ^ 64 ≡ 2 ^ k
-shifted k l = simp one-mul (mod-eq-of-lt (pow-lt {i = k} {j = 64} l))
 
 -- bits that are shifted down and up again lose those below k and nothing else
 pub dropped : (bits k : ℕ) → bits < 2 ^ 64 → bits / 2 ^ k * 2 ^ k % 2 ^ 64 ≡ bits / 2 ^ k * 2 ^ k

@@ -3,7 +3,7 @@ use native.Mathlib.Omega.{arith}
 use borrow.Author.Needs.{needs}
 use lib.ListN.{getD}
 use lib.Count.{trailingZeros, trailing-le}
-use Rattle.overload.proofs.Waiting.{shifted}
+use Rattle.serving.specs.Mask.Laws.{shifted}
 use Rattle.overload.proofs.Comes.{can-arrive, arrive-turn}
 use Rattle.overload.proofs.Idles.{idle-turn}
 use Rattle.overload.proofs.Serves.{served-listed, served-rank, served-left, served-deadline, served-bit, part-turn, finish-turn}

@@ -3,7 +3,8 @@ use borrow.Author.Needs.{needs}
 use native.Mathlib.Omega.{arith}
 use lib.ListN.{length-set}
 use lib.Count.{trailingZeros, trailing-le}
-use Rattle.serving.proofs.LowestBit.{shifted, serves-none, serves-last, serves-more}
+use Rattle.serving.specs.Mask.Laws.{shifted}
+use Rattle.serving.proofs.LowestBit.{serves-none, serves-last, serves-more}
 use Rattle.serving.proofs.serve.Statement.{statement}
 use Rattle.serving.proofs.serve.Tie as tie
 

@@ -4,15 +4,19 @@ use mathlib.Core.Path.{_≡_, refl, sym, ap, _∙_}
 use mathlib.Core.Bool.{Bool, true, false, _&&_}
 use mathlib.Core.Logic.{_≢_}
 use mathlib.Core.Option.{Option, none, some}
-use native.Mathlib.Nat.{pow-zero, pow-suc, mul-assoc, mul-comm, mul-one, zero-mul, div-one, zero-div}
+use native.Mathlib.Nat.{one-mul, mod-eq-of-lt, pow-zero, pow-suc, mul-assoc, mul-comm, mul-one, zero-mul, div-one, zero-div}
 use native.Mathlib.Decide.{ℕ-discrete}
 use native.Mathlib.Omega.{arith}
 use borrow.Author.Tests.{le-leb, lt-leb}
 use lib.Dec.{leb}
-use lib.Pow.{shr-shr}
+use lib.Pow.{shr-shr, pow-lt}
 use lib.Count.{trailingZeros, under}
 use Rattle.sched.specs.Bounded.{leastFrom}
 use Rattle.serving.specs.Mask.{bit, maskFrom, mask}
+
+-- a shifted one is the power of two
+pub shifted : (k : ℕ) → k < 64 → 1 * 2 ^ k % 2 ^ 64 ≡ 2 ^ k
+shifted k l = simp one-mul (mod-eq-of-lt (pow-lt {i = k} {j = 64} l))
 
 half : (b m : ℕ) → b ≤ 1 → (b + 2 * m) / 2 ≡ m
 half b m l = omega arith
