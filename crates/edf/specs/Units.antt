@@ -1,12 +1,12 @@
 -- States that differ by one unit, and what is served of a state.
 use Prim.Native.Nat.{ℕ, zero, suc, _+_, _-_, _≤_, _<_}
 use mathlib.Core.Path.{_≡_, refl, ap, sym, _∙_, fun-ext}
-use mathlib.Core.Logic.{_⊎_, inl, inr, _≢_}
+use mathlib.Core.Logic.{_≢_}
 use native.Mathlib.Omega.{arith}
 use native.Mathlib.Decide.{ℕ-discrete}
 use borrow.Author.Tests.{eq-eqb, ne-eqb}
 use Rattle.sched.specs.Bounded.{sumBelow}
-use Rattle.sched.specs.Bounded.Laws.{lt-suc, sum-ext}
+use Rattle.sched.specs.Bounded.Laws.{sum-ext}
 use Rattle.edf.specs.Run.{State, lowered}
 
 -- M has a unit of job k more than L
@@ -54,17 +54,20 @@ less-everywhere k M L o j = go (ℕ-discrete j k)
     go (yes e) = rw e (omega (arith, o .there))
     go (no f) = omega (arith, o .elsewhere j f)
 
+-- one term is more by y
+pub sum-more : (n : ℕ) (f g : ℕ → ℕ) (m y : ℕ) → m < n → g m ≡ f m + y → ((j : ℕ) → j ≢ m → g j ≡ f j) → sumBelow n g ≡ sumBelow n f + y
+unfolding sumBelow
+sum-more zero f g m y l e h = absurd (omega arith)
+sum-more (suc n) f g m y l e h = go (ℕ-discrete n m) (sum-more n f g m y)
+  where
+    go :
+        Dec (n ≡ m) → (m < n → g m ≡ f m + y → ((j : ℕ) → j ≢ m → g j ≡ f j) → sumBelow n g ≡ sumBelow n f + y) →
+        sumBelow n g + g n ≡ sumBelow n f + f n + y
+    go (yes q) ih =
+        let rest = sum-ext n g f (λ i b. h i (λ z. omega arith)) in
+        omega (arith, rest, e, ap g q, ap f q)
+    go (no q) ih = omega (arith, ih (omega arith) e h, h n q)
+
 -- the sums differ by one
 pub sum-one-more : (n k : ℕ) (M L : State) → k < n → OneMore k M L → sumBelow n M ≡ suc (sumBelow n L)
-unfolding sumBelow
-sum-one-more zero k M L h o = absurd (omega arith)
-sum-one-more (suc n) k M L h o = go (lt-suc h) (sum-one-more n k M L)
-  where
-    go : (k < n) ⊎ (k ≡ n) → (k < n → OneMore k M L → sumBelow n M ≡ suc (sumBelow n L)) → sumBelow n M + M n ≡ suc (sumBelow n L + L n)
-    go (inl l) ih =
-        let e : M n ≡ L n = o .elsewhere n (omega arith) in
-        omega (arith, ih l o)
-    go (inr q) ih =
-        let e : sumBelow n M ≡ sumBelow n L = sum-ext n M L (λ i l. o .elsewhere i (omega arith)) in
-        let f : M n ≡ suc (L n) = rw q at (o .there) in
-        omega arith
+sum-one-more n k M L h o = omega (arith, sum-more n L M k 1 h (omega (arith, o .there)) (o .elsewhere))

@@ -6,7 +6,7 @@ use lib.ListN.{take, drop}
 use Rattle.sched.specs.declared.Refusal.{Refusal}
 use Rattle.sched.specs.declared.Checked.{Checked}
 use Rattle.sched.specs.declared.Checked.the-variants.{Passed, Refused}
-use Rattle.joblist.specs.Helpers.{Walked, Filled}
+use Rattle.joblist.specs.Parts.{Walked, Filled}
 
 module _ {h count : ℕ} {bytes rs ds ps xs ys zs : List ℕ} {answer : Checked} (w : Walked h count bytes answer xs ys zs) where
   pub fill-passed : {rs′ ds′ ps′ : List ℕ} → answer ≡ Passed → rs′ ≡ take count xs ++ drop count rs → ds′ ≡ take count ys ++ drop count ds → ps′ ≡ take count zs ++ drop count ps → Filled h count bytes rs ds ps Passed rs′ ds′ ps′

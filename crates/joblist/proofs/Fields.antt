@@ -16,7 +16,7 @@ use Rattle.sched.specs.declared.Checked.{Checked}
 use Rattle.sched.specs.declared.Checked.the-variants.{Passed, Refused as Faulty}
 use Rattle.joblist.specs.Bytes.{word, width, absentRelease, absentDeadline, absentVolume, hasRelease, hasDeadline, hasVolume, releaseAt, deadlineAt, volumeAt, entryLength}
 use Rattle.joblist.specs.Reading.{mapOf, valueIf, redundant, fieldsCheck, entryCheck}
-use Rattle.joblist.specs.Helpers.{FoundAt, entryOf}
+use Rattle.joblist.specs.Parts.{FoundAt, entryOf}
 use Rattle.joblist.specs.declared.entry.Found.{Found}
 use Rattle.joblist.specs.declared.entry.Entry.{Entry}
 use Rattle.joblist.specs.declared.entry.Entry.the-variants.{Read, Refused}

@@ -18,7 +18,7 @@ use Rattle.sched.specs.declared.Checked.the-variants.{Passed, Refused as Faulty
 use Rattle.joblist.specs.Reading.{readCheck, Reading, reading, accepted, afterCheck as afterRead, readNumber, readValues, ReadPromise, headerCheck, lentCheck}
 use Rattle.joblist.specs.Bytes.{spelling, headerLength, headerHorizon, headerCount, entriesBytes}
 use Rattle.joblist.specs.Writing.{writeCheck, Writing, afterCheck, writing, writtenNumber, writtenValues, WritePromise}
-use Rattle.joblist.specs.Helpers.{HeaderOf, frontCheck, behindHeader, Fillable, Filled, EqualLists}
+use Rattle.joblist.specs.Parts.{HeaderOf, frontCheck, behindHeader, Fillable, Filled, EqualLists}
 use Rattle.joblist.specs.Laws.Passing.{then-next, then-stop, told}
 use Rattle.joblist.specs.Laws.Input.{header-passed, lent-passed, reading-accepted, reading-refused}
 use Rattle.joblist.specs.declared.ListHeader.{ListHeader}

@@ -11,7 +11,7 @@ use lib.ListN.{length, getD, drop, set, length-append, drop-of-length-le}
 use lib.Seq.{drop-cons, sets, length-sets}
 use Rattle.sched.specs.Jobs.{Jobs}
 use Rattle.joblist.specs.Bytes.{headerLength, absentRelease, absentDeadline, absentVolume, stands, bit, mapByte, bytesIf, entryBytes, entriesBytes, header, spelling}
-use Rattle.joblist.specs.Helpers.{EqualLists, PutAt}
+use Rattle.joblist.specs.Parts.{EqualLists, PutAt}
 
 -- Lengths
 

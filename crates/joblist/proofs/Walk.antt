@@ -16,7 +16,7 @@ use Rattle.sched.specs.declared.Checked.{Checked}
 use Rattle.sched.specs.declared.Checked.the-variants.{Passed, Refused as Faulty}
 use Rattle.joblist.specs.Bytes.{headerLength, entryLength}
 use Rattle.joblist.specs.Reading.{mapOf, releaseOf, deadlineOf, volumeOf, entryCheck, entriesCheck, column}
-use Rattle.joblist.specs.Helpers.{fieldsOf, entryOf, behindHeader, Fillable, Walked}
+use Rattle.joblist.specs.Parts.{fieldsOf, entryOf, behindHeader, Fillable, Walked}
 use Rattle.joblist.specs.declared.entry.Fields.{Fields}
 use Rattle.joblist.specs.declared.entry.Entry.{Entry}
 use Rattle.joblist.specs.declared.entry.Entry.the-variants.{Read, Refused}

@@ -2,6 +2,6 @@
 pub mod Bytes
 pub mod Reading
 pub mod Writing
-pub mod Helpers
+pub mod Parts
 pub mod Laws
 pub mod Theorems

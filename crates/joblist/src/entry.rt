@@ -6,7 +6,7 @@ ghost use lib.Dec.{eqb};
 ghost use lib.ListN.{length, drop};
 ghost use Rattle.joblist.specs.Bytes.{word, hasRelease, hasDeadline, hasVolume, width, entryLength};
 ghost use Rattle.joblist.specs.Reading.{fieldsCheck, entryCheck};
-ghost use Rattle.joblist.specs.Helpers.{FoundAt, WholeEntry, entryOf};
+ghost use Rattle.joblist.specs.Parts.{FoundAt, WholeEntry, entryOf};
 use sched::Checked;
 use sched::Refusal;
 

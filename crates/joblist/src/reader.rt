@@ -4,7 +4,7 @@ ghost use Prim.Native.Nat.{_≤_};
 ghost use lib.ListN.{length};
 ghost use Rattle.joblist.specs.Bytes.{headerLength};
 ghost use Rattle.joblist.specs.Reading.{headerCheck, lentCheck};
-ghost use Rattle.joblist.specs.Helpers.{HeaderOf, frontCheck, Fillable, Walked, Filled};
+ghost use Rattle.joblist.specs.Parts.{HeaderOf, frontCheck, Fillable, Walked, Filled};
 use super::ListHeader;
 use super::entry;
 use super::entry::Entry;

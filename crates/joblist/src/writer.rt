@@ -6,7 +6,7 @@ ghost use lib.ListN.{length};
 ghost use lib.Seq.{sets};
 ghost use Rattle.sched.specs.Jobs.{jobsOf};
 ghost use Rattle.joblist.specs.Bytes.{headerLength, spelled, absentRelease, absentDeadline, absentVolume, bit, mapByte, stands, bytesIf, entryBytes, entriesBytes, spelling};
-ghost use Rattle.joblist.specs.Helpers.{EqualLists, Puttable, PutAt};
+ghost use Rattle.joblist.specs.Parts.{EqualLists, Puttable, PutAt};
 
 fn bit(stands: bool) -> u8
     ensures { λ r. ⌜ r ≡ bit stands ⌝ }

@@ -14,7 +14,8 @@ use Rattle.sched.specs.Jobs.{Jobs, count, release, deadline}
 use Rattle.edf.specs.Search.{stateOf}
 use Rattle.edf.specs.Chain.{RankedJobs, jobAt}
 use Rattle.edf.specs.Overload.Late.{Ran, Stint}
-use Rattle.edf.specs.Overload.Late.Laws.{sum-more, ran-stint}
+use Rattle.edf.specs.Units.{sum-more}
+use Rattle.edf.specs.Overload.Late.Laws.{ran-stint}
 use Rattle.serving.specs.Arrivals.{Arriving, waits}
 use Rattle.serving.specs.Mask.{mask}
 use Rattle.serving.specs.Mask.Laws.{Joins, mask-joins, mask-alike}

@@ -1,5 +1,5 @@
 -- The pass keeps what `Ran` says of it, and so finds the least end of an overloaded interval.
-use Prim.Native.Nat.{ℕ, zero, suc, _+_, _-_, _≤_, _<_}
+use Prim.Native.Nat.{ℕ, _+_, _-_, _≤_, _<_}
 use mathlib.Core.Path.{_≡_, refl, sym, ap, _∙_}
 use mathlib.Core.Bool.{Bool, true, false, _&&_, and-false}
 use mathlib.Core.Logic.{_⊎_, inl, inr, _≢_}
@@ -12,23 +12,10 @@ use Rattle.sched.specs.Bounded.Laws.{sum-ext, sum-mono, sum-zero}
 use Rattle.sched.specs.Jobs.{Jobs, count, release, deadline, volume}
 use Rattle.sched.specs.Checks.{Passes}
 use Rattle.sched.specs.Overload.{volumeIf, volumeInside}
+use Rattle.edf.specs.Units.{sum-more}
 use Rattle.edf.specs.Overload.{Overfull}
 use Rattle.edf.specs.Overload.Ends.{counts, counts-not}
 use Rattle.edf.specs.Overload.Late.{servedIf, servedInside, Busy, Ran, Stint}
-
--- one term is more by y
-pub sum-more : (n : ℕ) (f g : ℕ → ℕ) (m y : ℕ) → m < n → g m ≡ f m + y → ((j : ℕ) → j ≢ m → g j ≡ f j) → sumBelow n g ≡ sumBelow n f + y
-unfolding sumBelow
-sum-more zero f g m y l e h = absurd (omega arith)
-sum-more (suc n) f g m y l e h = go (ℕ-discrete n m) (sum-more n f g m y)
-  where
-    go :
-        Dec (n ≡ m) → (m < n → g m ≡ f m + y → ((j : ℕ) → j ≢ m → g j ≡ f j) → sumBelow n g ≡ sumBelow n f + y) →
-        sumBelow n g + g n ≡ sumBelow n f + f n + y
-    go (yes q) ih =
-        let rest = sum-ext n g f (λ i b. h i (λ z. omega arith)) in
-        omega (arith, rest, e, ap g q, ap f q)
-    go (no q) ih = omega (arith, ih (omega arith) e h, h n q)
 
 module _ (J : Jobs) (L : ℕ → ℕ) (a b j : ℕ) where
   served-inside : a ≤ release J j → deadline J j ≤ b → servedIf J L a b j ≡ volume J j - L j
