@@ -1,4 +1,1 @@
-pub mod Beginning
-pub mod Gathering
-pub mod Edges
 pub mod Stepping

@@ -16,16 +16,16 @@ use Rattle.sched.specs.Steps.{extended, tableOf}
 use Rattle.sched.specs.Outcomes.{figuresOf}
 use Rattle.sched.specs.declared.Figures.{Figures}
 use Rattle.sched.specs.declared.PlanFigures.{PlanFigures}
-use Rattle.edf.specs.Overload.Laws.{shown-none}
+use Rattle.laws_edf.specs.Overload.Laws.{shown-none}
 use Rattle.sched.specs.Slots.Laws.{awake-of-length}
-use Rattle.demands.specs.Steps.{extended-length, extended-full, plan-feasible}
-use Rattle.ranking.specs.Fronts.{blank, front-length, filled-front}
-use Rattle.ranking.specs.Order.{Places, Orders}
-use Rattle.ranking.specs.Order.Both.{ranks-long, ranked-jobs, by-windows}
-use Rattle.least.specs.Places.{Served}
-use Rattle.grow.specs.Turns.{Extended}
-use Rattle.planner.specs.Extending.{Extendable}
-use Rattle.serving.specs.Runs.{Fillable}
+use Rattle.laws_rivals.specs.Steps.{extended-length, extended-full, plan-feasible}
+use Rattle.orders.specs.Fronts.{blank, front-length, filled-front}
+use Rattle.orders.specs.Order.{Places, Orders}
+use Rattle.orders.specs.Order.Both.{ranks-long, ranked-jobs, by-windows}
+use Rattle.step2_skeleton.specs.Places.{Served}
+use Rattle.step3_extend.specs.Turns.{Extended}
+use Rattle.step3_extend.specs.Beginning.{Extendable}
+use Rattle.step4_table.specs.Filling.{Fillable}
 use Rattle.planner.specs.Promises.{Free, Stepped}
 
 -- both orders can be written to the fronts of two arrays

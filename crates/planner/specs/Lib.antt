@@ -1,3 +1,2 @@
 -- What the parts of the planner compute, where that is not a definition of `sched` itself.
-pub mod Extending
 pub mod Promises

@@ -14,8 +14,8 @@ use Rattle.sched.specs.Outcomes.{plan, figuresOf, outcomeNumber, outcomeValues}
 use Rattle.sched.specs.declared.PlanFigures.{PlanFigures}
 use Rattle.sched.specs.declared.Outcome.{Outcome}
 use Rattle.sched.specs.declared.Outcome.the-variants.{Planned}
-use Rattle.demands.specs.Rivals.{AgainstRivals}
-use Rattle.ranking.specs.Order.{Orders}
+use Rattle.laws_rivals.specs.Rivals.{AgainstRivals}
+use Rattle.orders.specs.Order.{Orders}
 pub mod Laws
 
 -- `lent` is the table as it was lent, `table` as it is handed back

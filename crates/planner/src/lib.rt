@@ -4,15 +4,13 @@ ghost use Prim.Native.Nat.{_≤_};
 ghost use lib.ListN.{length};
 ghost use Rattle.sched.specs.Checks.{Passes};
 ghost use Rattle.sched.specs.Jobs.{jobsOf};
-ghost use Rattle.ranking.specs.Order.{Orders};
+ghost use Rattle.orders.specs.Order.{Orders};
 ghost use Rattle.planner.specs.Promises.{Promise, Free, Stepped};
-use overload::Shown;
+use step1_overload::Shown;
 use sched::Checked;
 use sched::Outcome;
 use sched::PlanFigures;
 use sched::Refusal;
-
-mod extend; // extend.rt: step 3
 
 // Steps 2 to 5 on a table of just H bytes, for a list that passes the checks and has no overloaded interval.
 fn steps(
@@ -28,9 +26,9 @@ fn steps(
     requires { ⌜ Free (jobsOf h q (now releases) (now deadlines) (now volumes)) (now order) (now soon) (now table) ⌝ }
     ensures { λ r. ⌜ Stepped (jobsOf h q (now (releases .entry)) (now (deadlines .entry)) (now (volumes .entry))) r (now (table .exit)) ⌝ }
 {
-    least::mark(h, q, releases, deadlines, volumes, order, table);
-    let added = extend::extend(h, q, releases, deadlines, volumes, order, soon, table);
-    serving::fill(h, q, releases, deadlines, volumes, order, soon, table);
+    step2_skeleton::mark(h, q, releases, deadlines, volumes, order, table);
+    let added = step3_extend::extend(h, q, releases, deadlines, volumes, order, soon, table);
+    step4_table::fill(h, q, releases, deadlines, volumes, order, soon, table);
     let cost = sched::cost_of(q, table);
     PlanFigures {
         energy: cost.energy,
@@ -55,7 +53,7 @@ fn plan_ranked(
     ensures { λ r. ⌜ Promise (jobsOf h q (now (releases .entry)) (now (deadlines .entry)) (now (volumes .entry))) (now (table .entry)) r (now (table .exit)) ⌝ }
 {
     let end = h as usize;
-    match overload::find(h, q, releases, deadlines, volumes, order, soon) {
+    match step1_overload::find(h, q, releases, deadlines, volumes, order, soon) {
         Shown::At(i) => Outcome::Overloaded(i),
         Shown::Nothing => Outcome::Planned(steps(
             h,
@@ -89,7 +87,7 @@ fn plan_passed(
     let n = releases.len();
     let mut order = [0u8; 64];
     let mut soon = [0u8; 64];
-    ranking::rank(releases, deadlines, &mut order[..n], &mut soon[..n]);
+    orders::rank(releases, deadlines, &mut order[..n], &mut soon[..n]);
     plan_ranked(
         h,
         q,

@@ -18,7 +18,7 @@ use Rattle.sched.specs.declared.Refusal.{Refusal}
 use Rattle.sched.specs.declared.PlanFigures.{PlanFigures}
 use Rattle.sched.specs.declared.Outcome.{Outcome}
 use Rattle.sched.specs.declared.Outcome.the-variants.{Planned, Overloaded, Refused}
-use Rattle.demands.specs.Rivals as demands
+use Rattle.laws_rivals.specs.Rivals as demands
 use Rattle.sleep_plan.specs.Block.{answerBytes, numberIn}
 use Rattle.sleep_plan.specs.Block.Laws.{tooLarge, Small, one-number, two-numbers, four-numbers}
 use Rattle.sleep_plan.specs.Puts.{Puts, FiguresFit}

@@ -11,7 +11,7 @@ use Rattle.sched.specs.Outcomes.{plan, outcomeNumber, outcomeValues}
 use Rattle.sched.specs.declared.Refusal.{Refusal}
 use Rattle.sched.specs.declared.Checked.the-variants.{Passed, Refused as Faulty}
 use Rattle.sched.specs.declared.Outcome.{Outcome}
-use Rattle.demands.specs.Rivals as demands
+use Rattle.laws_rivals.specs.Rivals as demands
 use Rattle.joblist.specs.Reading.{listOf}
 use Rattle.sched.specs.Checks.Laws.{refused-not-passed}
 use Rattle.sleep_plan.specs.Block.{blockLength, answered, numberIn}

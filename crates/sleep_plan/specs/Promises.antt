@@ -9,8 +9,8 @@ use Rattle.sched.specs.Slots.{awakeOf}
 use Rattle.sched.specs.Energy.{energy}
 use Rattle.sched.specs.Feasible.{Feasible}
 use Rattle.sched.specs.declared.Checked.the-variants.{Passed}
-use Rattle.edf.specs.Overload.{Overfull}
-use Rattle.demands.specs.Rivals.{NoSchedule}
+use Rattle.laws_edf.specs.Overload.{Overfull}
+use Rattle.laws_rivals.specs.Rivals.{NoSchedule}
 use Rattle.joblist.specs.Bytes.{spelling}
 use Rattle.joblist.specs.Reading.{listOf}
 use Rattle.sleep_plan.specs.Block.{blockLength, numberIn}

@@ -3,7 +3,7 @@ use mathlib.Core.List.{List}
 use denote.Ref.{now}
 use Rattle.sched.specs.Jobs.{jobsOf}
 use Rattle.sched.specs.Checks.Laws.{passes-passed}
-use Rattle.ranking.specs.Fronts.{blank, front-length, filled-fits, filled-front-length}
+use Rattle.orders.specs.Fronts.{blank, front-length, filled-fits, filled-front-length}
 use Rattle.planner.specs.Promises.Laws.{short-refused}
 use Rattle.planner.proofs.Stepping.{places, fronts-ordered}
 use borrow.Author.Needs.{needs}

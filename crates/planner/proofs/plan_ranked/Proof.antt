@@ -1,7 +1,7 @@
 -- `planner::plan_ranked` meets its contract: an overloaded interval, or the steps on the table's first h bytes.
 use mathlib.Core.Path.{refl, sym, ap, _∙_}
 use lib.Seq.{length-take-le}
-use Rattle.overload.specs.Search.{shownOf}
+use Rattle.step1_overload.specs.Search.{shownOf}
 use Rattle.planner.specs.Promises.Laws.{overload-shown, steps-planned}
 use borrow.Author.Needs.{needs}
 use Rattle.planner.proofs.plan_ranked.Statement.{statement}

@@ -5,7 +5,7 @@ use mathlib.Core.List.{List}
 use lib.ListN.{length}
 use denote.Ref.{now}
 use Rattle.sched.specs.Jobs.{jobsOf}
-use Rattle.ranking.specs.Order.Both.{ranks-long, in-arrival}
+use Rattle.orders.specs.Order.Both.{ranks-long, in-arrival}
 use Rattle.planner.proofs.Stepping.{served, extendable, fillable, countable, stepped}
 use borrow.Author.Needs.{needs}
 use Rattle.planner.proofs.steps.Statement.{statement}

@@ -18,7 +18,7 @@ use Rattle.sched.specs.declared.PlanFigures.{PlanFigures}
 use Rattle.sched.specs.declared.Interval.{Interval}
 use Rattle.sched.specs.declared.Outcome.{Outcome}
 use Rattle.sched.specs.declared.Outcome.the-variants.{Planned, Overloaded, Refused}
-use Rattle.demands.specs.Theorems.{demand-three, added-counts}
+use Rattle.laws_rivals.specs.Theorems.{demand-three, added-counts}
 use Rattle.planner.specs.Promises.{Promise, Stepped}
 
 abbrev result : Outcome → List ℕ → Plan

@@ -1,0 +1,26 @@
+-- Earliest deadline first. `Theorems` has the statements about the words of 01; the other files lead to them.
+pub mod Run
+pub mod Placed
+pub mod Lacking
+pub mod Pick
+pub mod Units
+pub mod Apart
+pub mod Exchange
+pub mod AnyTie
+pub mod Left
+pub mod Placements
+pub mod Search
+pub mod Find
+pub mod Carry
+pub mod OneSlotMore
+pub mod Helping
+pub mod Shortage
+pub mod Touching
+pub mod Table
+pub mod FromState
+pub mod Whole
+pub mod Sets
+pub mod Woken
+pub mod Room
+pub mod Overload
+pub mod Theorems

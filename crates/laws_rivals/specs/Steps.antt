@@ -1,0 +1,53 @@
+-- Steps 2 to 5 for a list that passes the checks and has no overloaded interval: the skeleton, the set it is extended to, and its table.
+use Prim.Native.Nat.{ℕ, _+_, _-_, _≤_}
+use mathlib.Core.Path.{_≡_, ap, _∙_}
+use mathlib.Core.Bool.{Bool, false}
+use mathlib.Core.List.{List}
+use native.Mathlib.Omega.{arith}
+use lib.ListN.{length}
+use Rattle.sched.specs.Jobs.{Jobs, totalVolume}
+use Rattle.sched.specs.Checks.{Passes}
+use Rattle.sched.specs.Slots.{awakeOf}
+use Rattle.sched.specs.Energy.{energy}
+use Rattle.sched.specs.Feasible.{Feasible}
+use Rattle.sched.specs.Overload.{overloaded}
+use Rattle.sched.specs.Skeleton.{leastSkeleton}
+use Rattle.sched.specs.Workable.{workable}
+use Rattle.sched.specs.Steps.{woken, extended, tableOf}
+use Rattle.laws_edf.specs.Theorems.{workable-at-most-total, some-slot-wakes, table-keeps-set, table-feasible}
+use Rattle.laws_skeleton.specs.Theorems.{least-is-skeleton, least-length, least-cheapest}
+use Rattle.laws_skeleton.specs.Rival.{rival-skeleton, rival-length}
+use Rattle.laws_extension.specs.Waking.{AlwaysOne}
+use Rattle.laws_extension.specs.Waking.Laws.{all-length, woken-energy, woken-full, woken-count}
+
+module _ (J : Jobs) (p : Passes J) (none-over : (a b : ℕ) → overloaded J a b ≡ false) where
+  one : AlwaysOne J
+  one S n k v = some-slot-wakes J S p none-over k n v
+
+  pub extended-length : length (extended J) ≡ J .horizon
+  unfolding extended
+  extended-length = all-length (leastSkeleton J) (woken J (leastSkeleton J)) ∙ least-length J p
+
+  pub extended-full : workable J (extended J) ≡ totalVolume J
+  unfolding extended
+  extended-full =
+      woken-full J one (leastSkeleton J) (least-length J p) (least-is-skeleton J p)
+      (workable-at-most-total J (leastSkeleton J) p (least-length J p))
+
+  -- "added .. equals the sum of volumes less the skeleton's workable volume"
+  pub added-is-shortfall : length (woken J (leastSkeleton J)) ≡ totalVolume J - workable J (leastSkeleton J)
+  added-is-shortfall =
+      woken-count J one (leastSkeleton J) (least-length J p) (least-is-skeleton J p)
+      (workable-at-most-total J (leastSkeleton J) p (least-length J p))
+
+  pub plan-feasible : Feasible J (tableOf J (extended J))
+  plan-feasible = table-feasible J (extended J) p extended-length extended-full
+
+  -- no more than the energy of any feasible table plus the sum of volumes
+  pub plan-energy : (rival : List ℕ) → Feasible J rival → energy J (awakeOf (tableOf J (extended J))) ≤ energy J (awakeOf rival) + totalVolume J
+  unfolding extended woken
+  plan-energy rival f =
+      let kept = ap (energy J) (table-keeps-set J (extended J) p) in
+      let grown = woken-energy J (J .horizon) (leastSkeleton J) (least-length J p) in
+      let least = least-cheapest J (awakeOf rival) p (rival-length J rival f) (rival-skeleton J rival p f) in
+      omega (arith, kept, grown, least, added-is-shortfall)

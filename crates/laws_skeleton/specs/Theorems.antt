@@ -1,0 +1,124 @@
+-- 01, step 2: what is proved of the least skeleton. `leastSkeleton` is the literal definition, by trying all sets; `builtSkeleton` and
+-- `skeletonEnergy` come from the recursion over slots (`Windows`), `runsOf` from one number a job (`Runs`).
+use Prim.Native.Nat.{ℕ, suc, _-_, _≤_, _<_}
+use mathlib.Core.Path.{_≡_, sym, ap, _∙_}
+use mathlib.Core.Bool.{Bool, true, false}
+use mathlib.Core.List.{List}
+use mathlib.Core.Logic.{_≢_}
+use native.Mathlib.Nat.{sub-zero}
+use native.Mathlib.Omega.{arith}
+use lib.ListN.{length}
+use Rattle.sched.specs.Jobs.{Jobs, count}
+use Rattle.sched.specs.Checks.{Passes}
+use Rattle.sched.specs.Slots.{awake}
+use Rattle.sched.specs.Energy.{energy, start}
+use Rattle.sched.specs.Skeleton.{isSkeleton, leastSkeleton}
+use Rattle.laws_skeleton.specs.Recursion.{least, built}
+use Rattle.laws_skeleton.specs.Recursion.Exchange.{later-sleep, later-wake, allowed-costs}
+use Rattle.laws_skeleton.specs.Recursion.Built.{built-length, built-allowed, built-costs, built-precedes}
+use Rattle.laws_skeleton.specs.Precedence.{Precedes, Least}
+use Rattle.laws_skeleton.specs.Precedence.Laws.{precedes-differ}
+use Rattle.laws_skeleton.specs.Enumeration.{least-is}
+use Rattle.laws_skeleton.specs.Windows.{due, skeletonEnergy, builtSkeleton}
+use Rattle.laws_skeleton.specs.Windows.Laws.{due-rises, skeleton-allowed, allowed-skeleton}
+use Rattle.laws_skeleton.specs.Order.{Order}
+use Rattle.laws_skeleton.specs.Order.Laws.{order-rest}
+use Rattle.laws_skeleton.specs.Runs.{sleepCost, values, runsOf, spread, valueAt}
+use Rattle.laws_skeleton.specs.Runs.Values.{values-right, awake-right}
+use Rattle.laws_skeleton.specs.Runs.Laws.{runs-built, runs-few}
+
+-- The recursion
+
+-- neither a later sleep nor a later wake costs more
+pub sleep-falls : (J : Jobs) (s : ℕ) → s < J .horizon
+    → least (due J) (J .wake) (J .horizon - suc s) false (suc s) (suc s) ≤ least (due J) (J .wake) (J .horizon - s) false s s
+sleep-falls J s l =
+    let left : J .horizon - s ≡ suc (J .horizon - suc s) = omega arith in
+    rw left (later-sleep (due J) (J .wake) (due-rises J) (J .horizon - suc s) s)
+
+pub awake-falls : (J : Jobs) (t : ℕ) → t < J .horizon
+    → least (due J) (J .wake) (J .horizon - suc t) true (suc t) (suc t) ≤ least (due J) (J .wake) (J .horizon - t) true t t
+awake-falls J t l =
+    let left : J .horizon - t ≡ suc (J .horizon - suc t) = omega arith in
+    rw left (later-wake (due J) (J .wake) (due-rises J) (J .horizon - suc t) t)
+
+-- no skeleton costs less than the recursion's value
+pub skeleton-costs : (J : Jobs) (S : List Bool) → length S ≡ J .horizon → isSkeleton J S ≡ true → skeletonEnergy J ≤ energy J S
+skeleton-costs J S n e = allowed-costs (due J) (J .wake) (due-rises J) (J .horizon) (start J) 0 0 S n (skeleton-allowed J S e)
+
+-- the built set has H slots, is a skeleton, and costs just that
+pub built-long : (J : Jobs) → length (builtSkeleton J) ≡ J .horizon
+built-long J = built-length (due J) (J .wake) (J .horizon) (start J) 0 0
+
+pub built-is-skeleton : (J : Jobs) → Passes J → isSkeleton J (builtSkeleton J) ≡ true
+built-is-skeleton J p = allowed-skeleton J (builtSkeleton J) p (built-long J) (built-allowed (due J) (J .wake) (J .horizon) (start J) 0 0)
+
+pub built-energy : (J : Jobs) → energy J (builtSkeleton J) ≡ skeletonEnergy J
+built-energy J = built-costs (due J) (J .wake) (J .horizon) (start J) 0 0
+
+-- a skeleton of that energy that differs from it is awake at the first slot where the two differ
+built-comes-first : (J : Jobs) (S : List Bool) → length S ≡ J .horizon → isSkeleton J S ≡ true → energy J S ≡ skeletonEnergy J
+    → Precedes (builtSkeleton J) S
+built-comes-first J S n e same =
+    built-precedes (due J) (J .wake) (due-rises J) (J .horizon) (start J) 0 0 S n (skeleton-allowed J S e) same
+
+pub built-sleeps-first : (J : Jobs) (S : List Bool) (t : ℕ) → length S ≡ J .horizon → isSkeleton J S ≡ true
+    → energy J S ≡ skeletonEnergy J → ((u : ℕ) → u < t → awake (builtSkeleton J) u ≡ awake S u)
+    → awake (builtSkeleton J) t ≢ awake S t → awake S t ≡ true
+built-sleeps-first J S t n e same before differ = precedes-differ (builtSkeleton J) S t (built-comes-first J S n e same) before differ
+
+-- so it has what step 2 asks for
+built-least : (J : Jobs) → Passes J → Least J (builtSkeleton J)
+built-least J p = record {
+  long = built-long J;
+  skeleton = built-is-skeleton J p;
+  cheapest = λ S n e. omega (arith, built-energy J, skeleton-costs J S n e);
+  first = λ S n e same. built-comes-first J S n e (same ∙ built-energy J);
+}
+
+-- The least skeleton of 01
+
+pub built-is-least : (J : Jobs) → Passes J → leastSkeleton J ≡ builtSkeleton J
+built-is-least J p = least-is J (builtSkeleton J) (built-least J p)
+
+pub least-is-skeleton : (J : Jobs) → Passes J → isSkeleton J (leastSkeleton J) ≡ true
+least-is-skeleton J p = rw (built-is-least J p) (built-is-skeleton J p)
+
+pub least-length : (J : Jobs) → Passes J → length (leastSkeleton J) ≡ J .horizon
+least-length J p = rw (built-is-least J p) (built-long J)
+
+pub least-energy : (J : Jobs) → Passes J → energy J (leastSkeleton J) ≡ skeletonEnergy J
+least-energy J p = rw (built-is-least J p) (built-energy J)
+
+pub least-cheapest : (J : Jobs) (S : List Bool) → Passes J → length S ≡ J .horizon → isSkeleton J S ≡ true → energy J (leastSkeleton J) ≤ energy J S
+least-cheapest J S p n e = omega (arith, least-energy J p, skeleton-costs J S n e)
+
+-- The least skeleton as runs. Any order of the jobs by the ends of their windows will do.
+
+-- one number a job gives the recursion's cost of sleep from every slot
+pub values-give-sleep : (J : Jobs) (order : List ℕ) (s : ℕ) → Passes J → Order J order → s ≤ J .horizon
+    → sleepCost J s order (values J order) ≡ least (due J) (J .wake) (J .horizon - s) false s s
+values-give-sleep J order s p o l = values-right J p order (order-rest J order o) s l (λ k m n. o .all k m)
+
+-- and the cost from every awake slot on: the best end of the run is s = t + 1 or behind the start of a later window
+pub values-give-awake : (J : Jobs) (order : List ℕ) (t : ℕ) → Passes J → Order J order → t < J .horizon
+    → valueAt J t order (values J order) ≡ suc (least (due J) (J .wake) (J .horizon - suc t) true (suc t) (suc t))
+values-give-awake J order t p o l = awake-right J p order t (order-rest J order o) l (λ k m n. o .all k m)
+
+pub values-give-energy : (J : Jobs) (order : List ℕ) → Passes J → Order J order → sleepCost J 0 order (values J order) ≡ skeletonEnergy J
+values-give-energy J order p o = values-give-sleep J order 0 p o (omega arith) ∙ ap (λ (k : ℕ). least (due J) (J .wake) k false 0 0) (sub-zero (J .horizon))
+
+-- the runs are those of the least skeleton
+pub runs-are-built : (J : Jobs) (order : List ℕ) → Passes J → Order J order
+    → spread (J .horizon) 0 (runsOf J 0 order (values J order)) ≡ builtSkeleton J
+runs-are-built J order p o =
+    runs-built J p order (order-rest J order o) 0 (omega arith) (λ k m n. o .all k m)
+    ∙ ap (λ (k : ℕ). built (due J) (J .wake) k false 0 0) (sub-zero (J .horizon))
+
+pub runs-are-least : (J : Jobs) (order : List ℕ) → Passes J → Order J order
+    → spread (J .horizon) 0 (runsOf J 0 order (values J order)) ≡ leastSkeleton J
+runs-are-least J order p o = runs-are-built J order p o ∙ sym (built-is-least J p)
+
+-- there are no more runs than jobs
+pub runs-at-most : (J : Jobs) (order : List ℕ) → length order ≡ count J → length (runsOf J 0 order (values J order)) ≤ count J
+runs-at-most J order n = omega (arith, runs-few J 0 order (values J order))

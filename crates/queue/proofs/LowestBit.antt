@@ -1,0 +1,61 @@
+-- Bits by shifts: serving the lowest bit, case by case, dropping the bits below a rank, and the bit of a rank that joins.
+use Prim.Native.Nat.{ℕ, _-_, _*_, _/_, _%_, _^_, _≤_, _<_}
+use mathlib.Core.Path.{_≡_, sym, ap, _∙_}
+use mathlib.Core.Bool.{true, _&&_}
+use mathlib.Core.List.{List}
+use native.Mathlib.Nat.{one-mul, zero-mul, mod-eq-of-lt, lt-of-le-of-lt, div-mul-le-self, div-eq-of-lt}
+use native.Mathlib.Omega.{arith}
+use borrow.Author.Tests.{eq-eqb, ne-eqb, lt-ltb, le-leb, lt-leb}
+use lib.ListN.{getD, set}
+use lib.Seq.{getD-set-same}
+use lib.Dec.{leb, ltb}
+use lib.Pow.{pow-mono}
+use lib.Count.{trailingZeros}
+use Rattle.sched.specs.Slots.{idle}
+use Rattle.queue.specs.Mask.{bit}
+use Rattle.queue.specs.Mask.Laws.{shifted}
+use Rattle.queue.specs.Ranks.{lowest, servedByte, servedLeft, servedBits, CanServe}
+use Rattle.queue.specs.Runs.{Serves}
+
+-- what is not 0 is above it
+pub pos-ltb : (x : ℕ) → (x ≡ 0 → ⊥) → ltb 0 x ≡ true
+pos-ltb x n = lt-ltb 0 x (omega arith)
+
+-- bits that are shifted down and up again lose those below k and nothing else
+pub dropped : (bits k : ℕ) → bits < 2 ^ 64 → bits / 2 ^ k * 2 ^ k % 2 ^ 64 ≡ bits / 2 ^ k * 2 ^ k
+dropped bits k l = mod-eq-of-lt (lt-of-le-of-lt (div-mul-le-self bits (2 ^ k)) l)
+
+pub dropped-all : (bits k : ℕ) → 64 ≤ k → bits < 2 ^ 64 → 0 ≡ bits / 2 ^ k * 2 ^ k
+dropped-all bits k m l =
+    sym (ap (λ (x : ℕ). x * 2 ^ k) (div-eq-of-lt {n = bits} {m = 2 ^ k} (omega (arith, pow-mono {i = 64} {j = k} m))) ∙ zero-mul (2 ^ k))
+
+module _ (rank gone units : ℕ) where
+  pub joins-gone : rank < gone → 0 ≡ bit (leb gone rank && ltb 0 units) * 2 ^ rank
+  joins-gone l = rw (lt-leb gone rank l) (sym (zero-mul (2 ^ rank)))
+
+  pub joins-empty : gone ≤ rank → units ≡ 0 → 0 ≡ bit (leb gone rank && ltb 0 units) * 2 ^ rank
+  joins-empty l z = rw (le-leb gone rank l, z) (sym (zero-mul (2 ^ rank)))
+
+  pub joins : gone ≤ rank → (units ≡ 0 → ⊥) → rank < 64 → 1 * 2 ^ rank % 2 ^ 64 ≡ bit (leb gone rank && ltb 0 units) * 2 ^ rank
+  joins l n s = rw (le-leb gone rank l, pos-ltb units n) (shifted rank s ∙ sym (one-mul (2 ^ rank)))
+
+module _ (bits : ℕ) (order left : List ℕ) where
+  pub serves-none : bits ≡ 0 → Serves bits order left idle 0 left
+  unfolding servedByte servedLeft servedBits
+  serves-none e = let t = eq-eqb bits 0 e in record { byte-is = rw (t, servedByte); bits-are = rw (t, servedBits); left-is = rw (t, servedLeft) }
+
+  pub serves-last : (bits ≡ 0 → ⊥) → CanServe bits order left → getD (set left (lowest bits order) (getD left (lowest bits order) 0 - 1)) (lowest bits order) 0 ≡ 0 →
+      Serves bits order left (lowest bits order) (bits - 1 * 2 ^ trailingZeros 64 bits % 2 ^ 64) (set left (lowest bits order) (getD left (lowest bits order) 0 - 1))
+  unfolding servedByte servedLeft servedBits
+  serves-last n c z =
+      let t = ne-eqb bits 0 n in
+      let u = eq-eqb (getD left (lowest bits order) 0 - 1) 0 (sym (getD-set-same left (lowest bits order) _ 0 (c .job)) ∙ z) in
+      record { byte-is = rw (t, servedByte); bits-are = rw (t, u, shifted (trailingZeros 64 bits) (c .rank), servedBits); left-is = rw (t, servedLeft) }
+
+  pub serves-more : (bits ≡ 0 → ⊥) → CanServe bits order left → (getD (set left (lowest bits order) (getD left (lowest bits order) 0 - 1)) (lowest bits order) 0 ≡ 0 → ⊥) →
+      Serves bits order left (lowest bits order) bits (set left (lowest bits order) (getD left (lowest bits order) 0 - 1))
+  unfolding servedByte servedLeft servedBits
+  serves-more n c z =
+      let t = ne-eqb bits 0 n in
+      let u = ne-eqb (getD left (lowest bits order) 0 - 1) 0 (λ e. z (getD-set-same left (lowest bits order) _ 0 (c .job) ∙ e)) in
+      record { byte-is = rw (t, servedByte); bits-are = rw (t, u, servedBits); left-is = rw (t, servedLeft) }

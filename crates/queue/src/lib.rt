@@ -1,0 +1,270 @@
+// Runs of earliest deadline first over the awake slots of a table. `order` has the jobs by rank: by deadline, equal ones by number; `soon` has the
+// ranks in rising order of their releases.
+ghost use mathlib.Core.Path.{_≡_};
+ghost use mathlib.Core.Bool.{_&&_};
+ghost use Prim.Native.Nat.{_*_, _/_, _^_, _≤_, _<_};
+ghost use lib.ListN.{length};
+ghost use lib.Dec.{leb, ltb};
+ghost use Rattle.queue.specs.Mask.{bit};
+ghost use Rattle.queue.specs.Ranks.{spansOf, CanServe};
+ghost use Rattle.queue.specs.Arrivals.{comesAt, goesAt, Arriving, orNever};
+ghost use Rattle.queue.specs.Runs.{Reached, Known, Expirable, Expired, Arrivable, Arrived, Sooner, Lookable, Looked, Serves, SlotReady, SlotDone, Runnable, RunDone, Units};
+
+const ASLEEP: u8 = 255;
+
+const IDLE: u8 = 254;
+
+// A slot behind every table.
+const NEVER: usize = 65536;
+
+// The ranks that wait, a bit each, when the first `next` of `soon` have come and the first `gone` ranks have expired; it is so up to slot `until`.
+struct Ready {
+    mask: u64,
+    next: usize,
+    gone: usize,
+    until: usize,
+}
+
+struct Coming {
+    mask: u64,
+    next: usize,
+}
+
+struct Served {
+    byte: u8,
+    mask: u64,
+}
+
+fn wide(x: u16) -> usize
+    ensures { λ r. ⌜ r ≡ x ⌝ }
+{
+    x as usize
+}
+
+// When the rank at place i of `soon` is released.
+fn release_at(i: usize, releases: &[u16], order: &[u8], soon: &[u8]) -> usize
+    requires { ⌜ (i < length (now releases) → Reached (now releases) (now order) (now soon) i) ⌝ }
+    ensures { λ r. ⌜ r ≡ orNever (length (now (releases .entry))) (comesAt (now (releases .entry)) (now (order .entry)) (now (soon .entry))) i ⌝ }
+{
+    if i < releases.len() {
+        let rank = soon[i] as usize;
+        let job = order[rank] as usize;
+        return wide(releases[job]);
+    }
+    NEVER
+}
+
+// When rank k expires.
+fn deadline_at(k: usize, deadlines: &[u16], order: &[u8]) -> usize
+    requires { ⌜ (k < length (now deadlines) → Known (now deadlines) (now order) k) ⌝ }
+    ensures { λ r. ⌜ r ≡ orNever (length (now (deadlines .entry))) (goesAt (now (deadlines .entry)) (now (order .entry))) k ⌝ }
+{
+    if k < deadlines.len() {
+        let job = order[k] as usize;
+        return wide(deadlines[job]);
+    }
+    NEVER
+}
+
+// How many ranks have expired by slot t, of which the first `gone` are known.
+fn expire(t: usize, gone: usize, deadlines: &[u16], order: &[u8]) -> usize
+    requires { ⌜ Expirable (now deadlines) (now order) t gone ⌝ }
+    ensures { λ r. ⌜ Expired (now (deadlines .entry)) (now (order .entry)) t gone r ⌝ }
+{
+    let mut k = gone;
+    while deadline_at(k, deadlines, order) <= t {
+        k += 1;
+    }
+    k
+}
+
+// The mask without the ranks below k.
+fn drop_below(mask: u64, k: usize) -> u64
+    requires { ⌜ k ≤ 64 ⌝ }
+    ensures { λ r. ⌜ r ≡ mask / 2 ^ k * 2 ^ k ⌝ }
+{
+    if k < 64 {
+        return (mask >> (k as u32)) << (k as u32);
+    }
+    0
+}
+
+// What a rank that comes adds to the mask: nothing if it has expired or has no units.
+fn joining(rank: usize, gone: usize, units: u16) -> u64
+    requires { ⌜ rank < 64 ⌝ }
+    ensures { λ r. ⌜ r ≡ bit (leb gone rank && ltb 0 units) * 2 ^ rank ⌝ }
+{
+    if rank < gone {
+        return 0;
+    }
+    if units == 0 {
+        return 0;
+    }
+    1u64 << (rank as u32)
+}
+
+// The ranks that are released by slot t join the mask.
+fn arrive(
+    t: usize,
+    mask: u64,
+    next: usize,
+    gone: usize,
+    releases: &[u16],
+    order: &[u8],
+    soon: &[u8],
+    left: &[u16],
+) -> Coming
+    requires { ⌜ Arrivable (now releases) (now order) (now soon) (now left) t mask next gone ⌝ }
+    ensures { λ r. ⌜ Arrived (now (releases .entry)) (now (order .entry)) (now (soon .entry)) (now (left .entry)) t (r .mask) (r .next) gone ⌝ }
+{
+    let mut ranks = mask;
+    let mut i = next;
+    while release_at(i, releases, order, soon) <= t {
+        let rank = soon[i] as usize;
+        let job = order[rank] as usize;
+        ranks += joining(rank, gone, left[job]);
+        i += 1;
+    }
+    Coming {
+        mask: ranks,
+        next: i,
+    }
+}
+
+fn sooner(a: usize, b: usize) -> usize
+    ensures { λ r. ⌜ Sooner a b r ⌝ }
+{
+    if a < b { a } else { b }
+}
+
+// What slot t may serve, from what an earlier slot might.
+fn look(
+    t: usize,
+    last: Ready,
+    releases: &[u16],
+    deadlines: &[u16],
+    order: &[u8],
+    soon: &[u8],
+    left: &[u16],
+) -> Ready
+    requires { ⌜ Lookable (now releases) (now deadlines) (now order) (now soon) (now left) t (last .mask) (last .next) (last .gone) (last .until) ⌝ }
+    ensures { λ r. ⌜ Looked (now (releases .entry)) (now (deadlines .entry)) (now (order .entry)) (now (soon .entry)) (now (left .entry)) t (r .mask) (r .next) (r .gone) (r .until) ⌝ }
+{
+    let gone = expire(t, last.gone, deadlines, order);
+    let kept = drop_below(last.mask, gone);
+    let coming = arrive(t, kept, last.next, gone, releases, order, soon, left);
+    let release = release_at(coming.next, releases, order, soon);
+    let deadline = deadline_at(gone, deadlines, order);
+    Ready {
+        mask: coming.mask,
+        next: coming.next,
+        gone,
+        until: sooner(release, deadline),
+    }
+}
+
+// Serves the lowest of the ranks.
+fn serve(mask: u64, left: &mut [u16], order: &[u8]) -> Served
+    requires { ⌜ (0 < mask → CanServe mask (now order) (now left)) ⌝ }
+    ensures { λ r. ⌜ Serves mask (now (order .entry)) (now (left .entry)) (r .byte) (r .mask) (now (left .exit)) ⌝ }
+{
+    if mask == 0 {
+        return Served {
+            byte: IDLE,
+            mask: 0,
+        };
+    }
+    let rank = u64::trailing_zeros(mask);
+    let byte = order[rank as usize];
+    let job = byte as usize;
+    left[job] -= 1;
+    if left[job] == 0 {
+        return Served {
+            byte,
+            mask: mask - (1u64 << rank),
+        };
+    }
+    Served { byte, mask }
+}
+
+// What slot t may serve: as it was last, or looked at anew.
+fn current(
+    t: usize,
+    last: Ready,
+    releases: &[u16],
+    deadlines: &[u16],
+    order: &[u8],
+    soon: &[u8],
+    left: &[u16],
+) -> Ready
+    requires { ⌜ Lookable (now releases) (now deadlines) (now order) (now soon) (now left) t (last .mask) (last .next) (last .gone) (last .until) ⌝ }
+    ensures { λ r. ⌜ Looked (now (releases .entry)) (now (deadlines .entry)) (now (order .entry)) (now (soon .entry)) (now (left .entry)) t (r .mask) (r .next) (r .gone) (r .until) ⌝ }
+{
+    if t < last.until {
+        return last;
+    }
+    look(t, last, releases, deadlines, order, soon, left)
+}
+
+// Serves slot t if it is awake.
+fn slot(
+    t: usize,
+    last: Ready,
+    releases: &[u16],
+    deadlines: &[u16],
+    order: &[u8],
+    soon: &[u8],
+    left: &mut [u16],
+    table: &mut [u8],
+) -> Ready
+    requires { ⌜ SlotReady (now releases) (now deadlines) (now order) (now soon) (now left) (now table) t (last .mask) (last .next) (last .gone) (last .until) ⌝ }
+    ensures { λ r. ⌜ SlotDone (now (releases .entry)) (now (deadlines .entry)) (now (order .entry)) (now (soon .entry)) (now (left .entry)) (now (table .entry)) t (now (left .exit)) (now (table .exit)) (r .mask) (r .next) (r .gone) (r .until) ⌝ }
+{
+    if table[t] == ASLEEP {
+        return last;
+    }
+    let fresh = current(t, last, releases, deadlines, order, soon, left);
+    let served = serve(fresh.mask, left, order);
+    table[t] = served.byte;
+    Ready {
+        mask: served.mask,
+        next: fresh.next,
+        gone: fresh.gone,
+        until: fresh.until,
+    }
+}
+
+// Serves the awake slots of a table in rising order; what is not served stays in left.
+pub fn run(
+    releases: &[u16],
+    deadlines: &[u16],
+    order: &[u8],
+    soon: &[u8],
+    left: &mut [u16],
+    table: &mut [u8],
+)
+    requires { ⌜ (length (now deadlines) ≡ length (now releases)) × Runnable (spansOf (now releases) (now deadlines)) (now order) (now left) (now table) × Arriving (now releases) (now order) (now soon) ⌝ }
+    ensures { λ r. ⌜ RunDone (spansOf (now (releases .entry)) (now (deadlines .entry))) (now (left .entry)) (now (table .entry)) (now (left .exit)) (now (table .exit)) ⌝ }
+{
+    let mut last = Ready {
+        mask: 0,
+        next: 0,
+        gone: 0,
+        until: 0,
+    };
+    let mut t = 0;
+    while t < table.len() {
+        last = slot(t, last, releases, deadlines, order, soon, left, table);
+        t += 1;
+    }
+}
+
+// The units of each job before slot 0.
+pub fn units(volumes: &[u16]) -> [u16; 64]
+    requires { ⌜ length (now volumes) ≤ 64 ⌝ }
+    ensures { λ r. ⌜ Units (now (volumes .entry)) r ⌝ }
+{
+    let mut left = [0u16; 64];
+    sched::copy(volumes.len(), volumes, &mut left);
+    left
+}

@@ -1,0 +1,220 @@
+// Step 1: the overloaded interval that is shown. In one pass all slots are awake, and of the jobs that wait the one with the earliest deadline is
+// served, behind its deadline, too. The least deadline that a job is finished behind is the end. The start is the greatest release from which the
+// jobs that are due by the end have too little room.
+use sched::Interval;
+ghost use mathlib.Core.Path.{_≡_};
+ghost use Rattle.sched.specs.Jobs.{jobsOf};
+ghost use Rattle.sched.specs.Checks.{Passes};
+ghost use Rattle.sched.specs.Overload.{shownOverload};
+ghost use Rattle.laws_edf.specs.Overload.Search.{startFor, startOr};
+ghost use Rattle.orders.specs.Order.{Orders};
+ghost use Rattle.step1_overload.specs.Search.{shownOf, falling, Asked};
+ghost use Rattle.step1_overload.specs.Pass.{Reachable, Coming, Arrivable, Arrived, EndAfter, Turnable, Turned, LeastEnd};
+
+// A slot behind every other.
+const NEVER: u32 = 16777216;
+
+// Behind every deadline.
+const NO_END: u16 = 65535;
+
+pub enum Shown {
+    Nothing,
+    At(Interval),
+}
+
+// The slots before t are served. The ranks that wait have a bit each; the first `next` of `soon` have come, and the next one comes at slot
+// `coming`. `end` is the least deadline that a job was finished behind.
+struct Pass {
+    t: u32,
+    waiting: u64,
+    next: usize,
+    coming: u32,
+    end: u16,
+}
+
+// When the rank at place i of `soon` is released.
+fn comes_at(i: usize, releases: &[u16], order: &[u8], soon: &[u8]) -> u32
+    requires { ⌜ Reachable (now releases) (now order) (now soon) ⌝ }
+    ensures { λ r. ⌜ Coming (now (releases .entry)) (now (order .entry)) (now (soon .entry)) i r ⌝ }
+{
+    if i < releases.len() {
+        let rank = soon[i] as usize;
+        let job = order[rank] as usize;
+        return releases[job] as u32;
+    }
+    NEVER
+}
+
+// The next rank comes.
+fn arrive(last: Pass, releases: &[u16], order: &[u8], soon: &[u8]) -> Pass
+    requires { ⌜ Arrivable (now releases) (now order) (now soon) (last .waiting) (last .next) ⌝ }
+    ensures { λ r. ⌜ Arrived (now (releases .entry)) (now (order .entry)) (now (soon .entry)) (last .t) (last .waiting) (last .next) (last .end) (r .t) (r .waiting) (r .next) (r .coming) (r .end) ⌝ }
+{
+    let at = last.next;
+    let rank = soon[at] as u32;
+    let next = at + 1;
+    Pass {
+        t: last.t,
+        waiting: last.waiting + (1u64 << rank),
+        next,
+        coming: comes_at(next, releases, order, soon),
+        end: last.end,
+    }
+}
+
+// The end after a job is finished before slot t.
+fn end_after(end: u16, deadline: u16, t: u32) -> u16
+    ensures { λ r. ⌜ EndAfter end deadline t r ⌝ }
+{
+    if (deadline as u32) < t {
+        if deadline < end {
+            return deadline;
+        }
+        return end;
+    }
+    end
+}
+
+// From one event to the next: a rank comes, no rank waits, or the lowest is served until the next one comes or its last unit is done.
+fn turn(
+    last: Pass,
+    h: u16,
+    q: u16,
+    releases: &[u16],
+    deadlines: &[u16],
+    volumes: &[u16],
+    order: &[u8],
+    soon: &[u8],
+    left: &mut [u16],
+) -> Pass
+    requires { ⌜ Turnable (jobsOf h q (now releases) (now deadlines) (now volumes)) (now order) (now soon) (now left) (last .t) (last .waiting) (last .next) (last .coming) (last .end) ⌝ }
+    ensures { λ r. ⌜ Turned (jobsOf h q (now (releases .entry)) (now (deadlines .entry)) (now (volumes .entry))) (now (order .entry)) (now (soon .entry)) (now (left .entry)) (last .t) (last .next) (last .coming) (now (left .exit)) (r .t) (r .waiting) (r .next) (r .coming) (r .end) ⌝ }
+{
+    if last.coming <= last.t {
+        return arrive(last, releases, order, soon);
+    }
+    if last.waiting == 0 {
+        return Pass {
+            t: last.coming,
+            waiting: 0,
+            next: last.next,
+            coming: last.coming,
+            end: last.end,
+        };
+    }
+    let rank = u64::trailing_zeros(last.waiting);
+    let job = order[rank as usize] as usize;
+    let units = left[job] as u32;
+    let room = last.coming - last.t;
+    if room < units {
+        left[job] = (units - room) as u16;
+        return Pass {
+            t: last.coming,
+            waiting: last.waiting,
+            next: last.next,
+            coming: last.coming,
+            end: last.end,
+        };
+    }
+    left[job] = 0;
+    let t = last.t + units;
+    Pass {
+        t,
+        waiting: last.waiting - (1u64 << rank),
+        next: last.next,
+        coming: last.coming,
+        end: end_after(last.end, deadlines[job], t),
+    }
+}
+
+// The least end of an overloaded interval, or one behind the horizon.
+fn least_end(
+    h: u16,
+    q: u16,
+    releases: &[u16],
+    deadlines: &[u16],
+    volumes: &[u16],
+    order: &[u8],
+    soon: &[u8],
+) -> u16
+    requires { ⌜ Asked (jobsOf h q (now releases) (now deadlines) (now volumes)) (now order) (now soon) ⌝ }
+    ensures { λ r. ⌜ LeastEnd (jobsOf h q (now (releases .entry)) (now (deadlines .entry)) (now (volumes .entry))) r ⌝ }
+{
+    let mut left = queue::units(volumes);
+    let mut pass = Pass {
+        t: 0,
+        waiting: 0,
+        next: 0,
+        coming: comes_at(0, releases, order, soon),
+        end: NO_END,
+    };
+    while pass.t < NEVER {
+        pass = turn(
+            pass,
+            h,
+            q,
+            releases,
+            deadlines,
+            volumes,
+            order,
+            soon,
+            &mut left,
+        );
+    }
+    pass.end
+}
+
+// The greatest release from which the jobs that are due by b overfill the slots up to b, or 0.
+fn start_for(
+    b: u16,
+    h: u16,
+    q: u16,
+    releases: &[u16],
+    deadlines: &[u16],
+    volumes: &[u16],
+    order: &[u8],
+    soon: &[u8],
+) -> usize
+    requires { ⌜ Asked (jobsOf h q (now releases) (now deadlines) (now volumes)) (now order) (now soon) ⌝ }
+    ensures { λ r. ⌜ r ≡ startOr 0 (startFor (jobsOf h q (now (releases .entry)) (now (deadlines .entry)) (now (volumes .entry))) b (falling (now (order .entry)) (now (soon .entry))) 0) ⌝ }
+{
+    let mut sum: u32 = 0;
+    let mut at = soon.len();
+    while 0 < at {
+        at -= 1;
+        let rank = soon[at] as usize;
+        let job = order[rank] as usize;
+        if deadlines[job] <= b {
+            sum += volumes[job] as u32;
+            let a = releases[job];
+            if ((b - a) as u32) < sum {
+                return a as usize;
+            }
+        }
+    }
+    0
+}
+
+// The interval that step 1 shows, of a list that passes the checks, with its jobs by deadline and their ranks by release.
+pub fn find(
+    h: u16,
+    q: u16,
+    releases: &[u16],
+    deadlines: &[u16],
+    volumes: &[u16],
+    order: &[u8],
+    soon: &[u8],
+) -> Shown
+    requires { ⌜ Passes (jobsOf h q (now releases) (now deadlines) (now volumes)) × Orders (now releases) (now deadlines) (now order) (now soon) ⌝ }
+    ensures { λ r. ⌜ shownOf r ≡ shownOverload (jobsOf h q (now (releases .entry)) (now (deadlines .entry)) (now (volumes .entry))) ⌝ }
+{
+    let end = least_end(h, q, releases, deadlines, volumes, order, soon);
+    if h < end {
+        return Shown::Nothing;
+    }
+    let start = start_for(end, h, q, releases, deadlines, volumes, order, soon);
+    Shown::At(Interval {
+        a: start,
+        b: end as usize,
+    })
+}

@@ -1,0 +1,136 @@
+-- What the parts of step 2 compute. They go by place in an order of the jobs, over the starts and the ends of the windows alone:
+-- each promise holds for every list whose windows these are.
+use Prim.Native.Nat.{ℕ, suc, _+_, _*_, _≤_, _<_}
+use mathlib.Core.Path.{_≡_}
+use mathlib.Core.Bool.{Bool, true, false, _&&_, _||_}
+use mathlib.Core.List.{List, map}
+use lib.ListN.{length, getD, drop}
+use lib.Dec.{leb, ltb, eqb}
+use Rattle.sched.specs.Jobs.{Jobs, count}
+use Rattle.sched.specs.Checks.{Passes}
+use Rattle.sched.specs.Slots.{awakeOf}
+use Rattle.sched.specs.Skeleton.{leastSkeleton}
+use Rattle.laws_skeleton.specs.Windows.{windowStart, windowEnd}
+use Rattle.laws_skeleton.specs.Order.{Order}
+use Rattle.laws_skeleton.specs.Runs.{sleepCost, throughCost, runEnd, endAfter, values, runsOf, spread}
+
+abbrev pub chosen : Bool → ℕ → ℕ → ℕ
+chosen true a b = a
+chosen false a b = b
+
+-- a run that ends before c and costs `paid` against one that ends before `end` and costs `through`; none may end before `low`
+abbrev pub wins : ℕ → ℕ → ℕ → ℕ → ℕ → Bool
+wins low c paid end through = leb low c && (ltb paid through || eqb paid through && ltb c end)
+
+-- what 64 jobs of the greatest horizon and wake cost can cost, and one wake more
+abbrev pub largest : ℕ
+largest = 65535 + 64 * (4096 + 65535)
+
+-- no number from place `from` on is above `most`
+abbrev pub Small : ℕ → ℕ → List ℕ → Type 0
+Small most from l = (k : ℕ) → from ≤ k → k < length l → getD l k 0 ≤ most
+
+-- a list that passes the checks, with an order of its jobs that serves, and a table for it
+pub record Served (J : Jobs) (order table : List ℕ) : Type 0 where
+  pub passes : Passes J
+  pub serves : Order J order
+  pub many : length order ≡ count J
+  pub known : (k : ℕ) → k < length order → getD order k 0 < count J
+  pub long : length table ≡ J .horizon
+
+pub record Placeable (releases deadlines order starts ends : List ℕ) : Type 0 where
+  pub known : (k : ℕ) → k < length order → getD order k 0 < length releases
+  pub same : length deadlines ≡ length releases
+  pub starts-many : length starts ≡ length order
+  pub ends-many : length ends ≡ length order
+
+-- the windows of the jobs of a list, in an order that serves
+pub record Windows (starts ends : List ℕ) (J : Jobs) (order : List ℕ) : Type 0 where
+  pub passes : Passes J
+  pub serves : Order J order
+  pub many : length order ≡ count J
+  pub firsts : starts ≡ map (windowStart J) order
+  pub lasts : ends ≡ map (windowEnd J) order
+
+-- The parts of a turn
+
+abbrev pub SleepFrom : ℕ → List ℕ → List ℕ → ℕ → ℕ → ℕ → Type 0
+SleepFrom q starts numbers from s cost =
+    (J : Jobs) (order : List ℕ) → J .wake ≡ q → starts ≡ map (windowStart J) order → cost ≡ sleepCost J s (drop from order) (drop from numbers)
+
+-- what sleep costs behind the start of each window, with the jobs `js` to wake for
+abbrev pub Rests : Jobs → List ℕ → List ℕ → List ℕ → List ℕ → ℕ → Type 0
+Rests J starts rests js vs from =
+    (k : ℕ) → from ≤ k → k < length starts → getD rests k 0 ≡ sleepCost J (suc (getD starts k 0)) js vs
+
+abbrev pub EndFrom : List ℕ → List ℕ → ℕ → ℕ → ℕ → ℕ → ℕ → Type 0
+EndFrom starts rests from low through end paid =
+    (J : Jobs) (order vs : List ℕ) → starts ≡ map (windowStart J) order → Rests J starts rests (drop from order) vs from
+    → through ≡ throughCost J (drop from order) vs low
+    → (end ≡ runEnd J (drop from order) vs low low (drop from order)) × (paid ≡ throughCost J (drop from order) vs end)
+
+-- The pass from the last place to the first
+
+-- where the run ends that begins with the window of each place from i on
+abbrev pub Untils : Jobs → List ℕ → List ℕ → ℕ → Type 0
+Untils J order untils i =
+    (k : ℕ) → i ≤ k → k < length order
+    → getD untils k 0 ≡ endAfter J (drop (suc k) order) (values J (drop (suc k) order)) (windowEnd J (getD order k 0))
+
+-- the places from i on are done
+pub record Priced (starts numbers rests untils : List ℕ) (J : Jobs) (order : List ℕ) (i : ℕ) : Type 0 where
+  pub behind : drop i numbers ≡ values J (drop i order)
+  pub asleep : Rests J starts rests (drop i order) (values J (drop i order)) 0
+  pub until : Untils J order untils i
+
+pub record Priceable (q : ℕ) (starts ends numbers rests untils : List ℕ) (i : ℕ) : Type 0 where
+  pub J : Jobs
+  pub order : List ℕ
+  pub wake : J .wake ≡ q
+  pub windows : Windows starts ends J order
+  pub numbers-many : length numbers ≡ length starts
+  pub rests-many : length rests ≡ length starts
+  pub untils-many : length untils ≡ length starts
+  pub within : i < length starts
+  pub done : Priced starts numbers rests untils J order (suc i)
+
+abbrev pub Step : ℕ → List ℕ → List ℕ → List ℕ → List ℕ → List ℕ → List ℕ → List ℕ → List ℕ → ℕ → Type 0
+Step q starts ends numbers rests untils numbers′ rests′ untils′ i =
+    (J : Jobs) (order : List ℕ) → Windows starts ends J order → J .wake ≡ q
+    → Priced starts numbers rests untils J order (suc i) → Priced starts numbers′ rests′ untils′ J order i
+
+pub record Fresh (q : ℕ) (starts ends numbers rests untils : List ℕ) : Type 0 where
+  pub J : Jobs
+  pub order : List ℕ
+  pub wake : J .wake ≡ q
+  pub windows : Windows starts ends J order
+  pub numbers-many : length numbers ≡ length starts
+  pub rests-many : length rests ≡ length starts
+  pub untils-many : length untils ≡ length starts
+  pub zeros : (k : ℕ) → getD rests k 0 ≡ 0
+
+-- The pass from the first place to the last
+
+pub record Drawable (starts ends untils table : List ℕ) : Type 0 where
+  pub J : Jobs
+  pub order : List ℕ
+  pub windows : Windows starts ends J order
+  pub many : length untils ≡ length starts
+  pub until : Untils J order untils 0
+  pub long : length table ≡ J .horizon
+
+abbrev pub Drawn : List ℕ → List ℕ → List ℕ → List ℕ → Type 0
+Drawn starts ends untils table =
+    (J : Jobs) (order : List ℕ) → Windows starts ends J order → Untils J order untils 0 → length table ≡ J .horizon
+    → awakeOf table ≡ spread (J .horizon) 0 (runsOf J 0 order (values J order))
+
+pub record Markable (q : ℕ) (starts ends table : List ℕ) : Type 0 where
+  pub J : Jobs
+  pub order : List ℕ
+  pub wake : J .wake ≡ q
+  pub windows : Windows starts ends J order
+  pub long : length table ≡ J .horizon
+
+abbrev pub Marked : ℕ → List ℕ → List ℕ → List ℕ → Type 0
+Marked q starts ends table =
+    (J : Jobs) (order : List ℕ) → Windows starts ends J order → J .wake ≡ q → length table ≡ J .horizon → awakeOf table ≡ leastSkeleton J

@@ -1,0 +1,2 @@
+-- What step 4 starts from.
+pub mod Filling

@@ -1,0 +1,61 @@
+// Document 01's steps on lists of at most four jobs and eight slots, by trying every set of slots and
+// every placement. Test code: it is held against the planner, and shares no function with it.
+ghost use Rattle.test_exhaustive.specs.Bounds.{Bounded};
+
+mod small; // small.rt: a small list packed in numbers
+mod overload; // overload.rt: step 1
+mod sets; // sets.rt: sets of slots, what they cost, and step 2
+mod placement; // placement.rt: the workable volume of a set
+mod steps; // steps.rt: steps 3 and 4
+mod rivals; // rivals.rt: every feasible table
+
+pub use rivals::NONE;
+pub use rivals::least_energy;
+pub use small::Small;
+pub use small::digit;
+pub use small::volume;
+
+// A list's outcome: of an overloaded list a and b, of another the rest; what does not apply is 0.
+pub struct Solved {
+    pub overloaded: bool,
+    pub a: u32,
+    pub b: u32,
+    pub energy: u32,
+    pub awake: u32,
+    pub runs: u32,
+    pub added: u32,
+    // Slot t in byte t.
+    pub table: u64,
+}
+
+// Steps 1 to 5. Its contract only bounds the figures; that they are right is what the comparison tests.
+pub fn solve(l: Small) -> Solved
+    ensures { λ r. ⌜ Bounded r ⌝ }
+{
+    let over = overload::shown(l);
+    if over.found {
+        return Solved {
+            overloaded: true,
+            a: over.a,
+            b: over.b,
+            energy: 0,
+            awake: 0,
+            runs: 0,
+            added: 0,
+            table: 0,
+        };
+    }
+    let extended = steps::extend(l, sets::least_skeleton(l));
+    let set = extended.set;
+    let cost = sets::cost_of(l.q, set);
+    Solved {
+        overloaded: false,
+        a: 0,
+        b: 0,
+        energy: cost.energy,
+        awake: cost.awake,
+        runs: cost.runs,
+        added: extended.added,
+        table: steps::fill(l, set),
+    }
+}

@@ -1,0 +1,14 @@
+-- `modulo` keeps below its divisor.
+use native.Mathlib.Nat.{mod-lt}
+use borrow.Author.Needs.{needs}
+use Rattle.test_plans.proofs.lists.modulo.Statement.{statement}
+use Rattle.test_plans.proofs.lists.modulo.Tie as tie
+
+rem-result : tie.Need-rem-result
+rem-result c = search needs
+
+returns : tie.Need-returns
+returns c = mod-lt (c .args .x) (search needs)
+
+pub modulo-spec : {M : Type 1} → statement M
+modulo-spec = tie.close (tie.spec rem-result returns)

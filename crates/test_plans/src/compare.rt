@@ -1,0 +1,124 @@
+// Planner and exhaustive search on one list.
+ghost use mathlib.Core.Path.{_≡_};
+ghost use lib.ListN.{length};
+use crate::kept::MARK;
+use crate::kept::kept;
+use test_exhaustive::Small;
+use test_exhaustive::Solved;
+use test_exhaustive::digit;
+use sched::Outcome;
+
+// Counts over lists, and sums of figures over the planned ones.
+pub struct Tally {
+    pub lists: u64,
+    pub overloaded: u64,
+    pub differing: u64,
+    pub energy: u64,
+    pub added: u64,
+}
+
+pub fn plus(a: Tally, b: Tally) -> Tally {
+    Tally {
+        lists: std::num::wrapping_add_u64(a.lists, b.lists),
+        overloaded: std::num::wrapping_add_u64(a.overloaded, b.overloaded),
+        differing: std::num::wrapping_add_u64(a.differing, b.differing),
+        energy: std::num::wrapping_add_u64(a.energy, b.energy),
+        added: std::num::wrapping_add_u64(a.added, b.added),
+    }
+}
+
+fn wide(x: u8) -> u64 {
+    x as u64
+}
+
+// Whether the first h bytes are those of the packed table.
+fn same_table(h: u32, want: u64, table: &[u8]) -> bool {
+    let mut t = 0;
+    while t < table.len() {
+        if t < h as usize && wide(table[t]) != (want >> (t % 8 * 8)) % 256 {
+            return false;
+        }
+        t += 1;
+    }
+    true
+}
+
+// Whether outcome and table are the search's, and the energy is within the limit over every rival.
+fn agrees(l: Small, want: Solved, outcome: Outcome, table: &[u8]) -> bool {
+    let least = test_exhaustive::least_energy(l);
+    match outcome {
+        Outcome::Planned(f) => {
+            !want.overloaded
+                && f.energy == want.energy
+                && f.awake == want.awake
+                && f.runs == want.runs
+                && f.added == want.added
+                && least < test_exhaustive::NONE
+                && f.energy as u64 <= least as u64 + test_exhaustive::volume(l) as u64
+                && same_table(l.h, want.table, table)
+                && kept(table, l.h as usize)
+        }
+        Outcome::Overloaded(i) => {
+            want.overloaded
+                && i.a == want.a as usize
+                && i.b == want.b as usize
+                && test_exhaustive::NONE <= least
+                && kept(table, 0)
+        }
+        Outcome::Refused(_) => false,
+    }
+}
+
+fn entries(x: u32) -> [u16; 4]
+    ensures { λ r. ⌜ 4 ≡ length r ⌝ }
+{
+    [
+        digit(x, 0) as u16,
+        digit(x, 1) as u16,
+        digit(x, 2) as u16,
+        digit(x, 3) as u16,
+    ]
+}
+
+fn planned(l: Small, table: &mut [u8]) -> Outcome {
+    let n = (l.n % 5) as usize;
+    let releases = entries(l.r);
+    let deadlines = entries(l.d);
+    let volumes = entries(l.p);
+    planner::plan(
+        (l.h % 9) as u16,
+        l.q,
+        &releases[..n],
+        &deadlines[..n],
+        &volumes[..n],
+        table,
+    )
+}
+
+// The tally of one list.
+pub fn compare(l: Small) -> Tally {
+    let want = test_exhaustive::solve(l);
+    let mut table = [MARK; 16];
+    let outcome = planned(l, &mut table);
+    let differing = if agrees(l, want, outcome, &table) {
+        0
+    } else {
+        1
+    };
+    if want.overloaded {
+        return Tally {
+            lists: 1,
+            overloaded: 1,
+            differing,
+            energy: 0,
+            added: 0,
+        };
+    }
+    Tally {
+        lists: 1,
+        overloaded: 0,
+        differing,
+        energy: want.energy as u64,
+        added: want.added as u64,
+    }
+}

@@ -1,0 +1,132 @@
+// The lists of the comparison, each made from a number.
+use test_exhaustive::Small;
+use test_exhaustive::digit;
+ghost use Prim.Native.Nat.{_<_};
+
+// Wake costs 0, 1, 2, 3 and 9.
+fn wake_cost(i: u32) -> u16 {
+    let c = (i % 5) as u16;
+    if c == 4 { 9 } else { c }
+}
+
+// Digit j of a packed field.
+fn placed(x: u32, j: u32) -> u32 {
+    (x % 16) << (j % 8 * 4)
+}
+
+fn modulo(x: u32, m: u32) -> u32
+    requires { ⌜ 0 < m ⌝ }
+    ensures { λ r. ⌜ r < m ⌝ }
+{
+    x % m
+}
+
+// List number `code` of those with n jobs, a horizon of at most m and volumes of at most m, a field
+// after the other: first the horizon, then the wake cost, then release, deadline and volume of each
+// job. Some are no lists: see `valid`.
+pub fn listed(n: u32, m: u32, code: u32) -> Small
+    requires { ⌜ 0 < m ⌝ }
+{
+    let mut rest = code / m / 5;
+    let mut r = 0;
+    let mut d = 0;
+    let mut p = 0;
+    for j in 0..4 {
+        if j < n {
+            r |= placed(modulo(rest, m), j);
+            d |= placed(modulo(rest / m, m) + 1, j);
+            p |= placed(modulo(rest / m / m, m) + 1, j);
+        }
+        rest = rest / m / m / m;
+    }
+    Small {
+        h: modulo(code, m) + 1,
+        q: wake_cost(code / m),
+        n,
+        r,
+        d,
+        p,
+    }
+}
+
+fn valid_job(l: Small, j: u32) -> bool {
+    l.n <= j
+        || digit(l.r, j) < digit(l.d, j)
+            && digit(l.d, j) <= l.h
+            && digit(l.r, j) + digit(l.p, j) <= digit(l.d, j) + 1
+}
+
+// Whether the list passes the list checks and no volume is larger than its span by more than one.
+pub fn valid(l: Small) -> bool {
+    valid_job(l, 0) && valid_job(l, 1) && valid_job(l, 2) && valid_job(l, 3)
+}
+
+// The numbers behind the drawn lists: a linear congruence, used without its low bits.
+pub fn next(seed: u64) -> u64
+    ensures { λ r. ⌜ r < 2147483648 ⌝ }
+{
+    (seed % 2147483648 * 1103515245 + 12345) % 2147483648
+}
+
+fn below(seed: u64, m: u32) -> u32
+    requires { ⌜ 0 < m ⌝ }
+    ensures { λ r. ⌜ r < m ⌝ }
+{
+    modulo((seed / 65536 % 32768) as u32, m)
+}
+
+struct Span {
+    r: u32,
+    d: u32,
+}
+
+// From the lesser of two slots to the greater.
+fn between(x: u32, y: u32) -> Span
+    requires { ⌜ (x < 8) × (y < 8) ⌝ }
+{
+    if x < y {
+        Span { r: x, d: y + 1 }
+    } else {
+        Span { r: y, d: x + 1 }
+    }
+}
+
+pub struct Draw {
+    pub list: Small,
+    pub seed: u64,
+}
+
+// A list of one to four jobs, five to eight slots and volumes of at most three.
+pub fn drawn(seed: u64) -> Draw {
+    let h_seed = next(seed);
+    let q_seed = next(h_seed);
+    let n_seed = next(q_seed);
+    let h = below(h_seed, 4) + 5;
+    let n = below(n_seed, 4) + 1;
+    let mut at = n_seed;
+    let mut r = 0;
+    let mut d = 0;
+    let mut p = 0;
+    for j in 0..4 {
+        if j < n {
+            let r_seed = next(at);
+            let d_seed = next(r_seed);
+            at = next(d_seed);
+            let span = between(below(r_seed, h), below(d_seed, h));
+            r |= placed(span.r, j);
+            d |= placed(span.d, j);
+            p |= placed(below(at, 3) + 1, j);
+        }
+    }
+    Draw {
+        list: Small {
+            h,
+            q: wake_cost(below(q_seed, 5)),
+            n,
+            r,
+            d,
+            p,
+        },
+        seed: at,
+    }
+}

@@ -1,0 +1,18 @@
+-- `tables::first_entries` is safe: the part is as long as its end says.
+use mathlib.Core.Path.{sym}
+use lib.Seq.{length-take-le}
+use borrow.Author.Needs.{needs}
+use Rattle.test_tables.proofs.tables.first_entries.Statement.{statement}
+use Rattle.test_tables.proofs.tables.first_entries.Tie as tie
+
+slice-aggregate-result : tie.Need-slice-aggregate-result
+slice-aggregate-result c = sym (length-take-le _ _ (c .before .if1 .taken))
+
+returns : tie.Need-returns
+returns c = search needs
+
+returns-2 : tie.Need-returns-2
+returns-2 c = search needs
+
+pub first-entries-spec : {M : Type 1} → statement M
+first-entries-spec = tie.close (tie.spec slice-aggregate-result returns returns-2)
