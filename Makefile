@@ -8,13 +8,13 @@ CC := gcc
 STRICT := -std=c99 -O2 -Wall -Wextra -pedantic -Werror
 
 run:
-	@tests/show
+	@tests/run_worked_list
 
 tool: target/jobs
 	@:
 
 target/jobs: $(wildcard tools/jobs/*) include/sleep_plan.h $(archive)
-	@tests/need $(CC)
+	@tests/install_missing $(CC)
 	@$(CC) $(STRICT) -Iinclude tools/jobs/*.c $(archive) -o $@
 
 # Whatever a proof or a function of the archive could rest on. `rt` itself knows what is still proved.

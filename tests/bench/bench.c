@@ -1,7 +1,8 @@
 /* Times of sleep_plan beside three other implementations, on the same lists in one process; their tables are compared. Where a loop happens to lie
  * makes it a third quicker or slower on some processors, so each implementation is there in four places and its best one counts. */
 #define _GNU_SOURCE
-#include "kinds.h"
+#include "list.h"
+#include "other_planners.h"
 #include "sleep_plan.h"
 #include <pthread.h>
 #include <stdio.h>
@@ -16,56 +17,50 @@ static const int sizes[SIZES] = {512, 1024, 2048, 4096};
 static uint32_t seed;
 static int below(int n) { seed = seed * 1664525u + 1013904223u; return (int)((seed >> 8) % (uint32_t)n); }
 
-static void make(struct list *l, int f, int h) {
+static uint8_t bytes[512], ours[MAX_H], other[MAX_H], scratch[MAX_H], block[16];
+static uint32_t best_block[4], plain_block[4];
+static size_t bytes_len;
+static struct jobs jobs;
+
+/* The bytes of a family's list with h slots, and what *limit* is given of it. */
+static void make(int f, int h) {
+  struct list l;
+  memset(&l, 0, sizeof l); /* so memset is bound before a call is counted */
   seed = 7;
-  memset(l, 0, sizeof *l);
-  l->h = h;
-  l->q = f == 8 ? 0 : f == 9 ? 65535 : 3;
-  l->n = f == 0 ? 1 : f == 5 ? 0 : MAX_JOBS;
-  for (int i = 0; i < l->n; i++) {
+  l.h = (unsigned)h;
+  l.q = f == 8 ? 0 : f == 9 ? 65535 : 3;
+  l.n = f == 0 ? 1 : f == 5 ? 0 : JOBS;
+  for (int i = 0; i < (int)l.n; i++) {
     int r, d, p;
     if (f == 0) { r = 0; d = h; p = h; }
     else if (f == 1) { r = i * h / 160; d = h - i * h / 160; p = h / 80; }
     else if (f == 2) { r = i * (h / 64); d = r + h / 64; p = h / 128; }
     else if (f == 3) { r = below(h / 4); d = h - below(h / 4); p = h / 70; }
     else { r = below(h); d = r + 1 + below(h - r); p = f == 6 ? 1 : 1 + below((d - r + 39) / 40); }
-    l->r[i] = (uint16_t)r; l->d[i] = (uint16_t)d; l->p[i] = (uint16_t)p;
+    l.job[i] = (struct job){ (unsigned)r, (unsigned)d, (unsigned)p, 0 };
   }
-  if (f == 7) { l->r[63] = 0; l->d[63] = (uint16_t)h; l->p[63] = (uint16_t)h; }
-}
-
-static size_t spell(const struct list *l, uint8_t *b) {
-  size_t n = 5;
-  b[0] = (uint8_t)l->h; b[1] = (uint8_t)(l->h >> 8); b[2] = (uint8_t)l->q; b[3] = (uint8_t)(l->q >> 8); b[4] = (uint8_t)l->n;
-  for (int j = 0; j < l->n; j++) {
-    int value[3] = {l->r[j], l->d[j], l->p[j]}, absent[3] = {0, l->h, 1};
-    size_t map = n++;
-    b[map] = 0;
-    for (int f = 0; f < 3; f++) if (value[f] != absent[f]) { b[map] |= (uint8_t)(1 << f); b[n++] = (uint8_t)value[f]; b[n++] = (uint8_t)(value[f] >> 8); }
-  }
-  return n;
+  if (f == 7) l.job[63] = (struct job){ 0, l.h, l.h, 0 };
+  settle(&l);
+  bytes_len = spell(&l, bytes);
+  read_jobs(bytes, bytes_len, &jobs);
 }
 
 #define IN_PLACE(at) \
   uint32_t sleep_plan_##at(const uint8_t *, size_t, uint8_t *, size_t, uint8_t *, size_t); \
   int best_plan_##at(const uint8_t *, size_t, uint8_t *, uint32_t *); \
-  void limit_fill_##at(const struct list *, const uint8_t *, uint8_t *);
+  void limit_fill_##at(const struct jobs *, const uint8_t *, uint8_t *);
 IN_PLACE(0) IN_PLACE(16) IN_PLACE(32) IN_PLACE(48)
 static uint32_t (*const sleep_plan_in[PLACES])(const uint8_t *, size_t, uint8_t *, size_t, uint8_t *, size_t) = {
   sleep_plan_0, sleep_plan_16, sleep_plan_32, sleep_plan_48};
 static int (*const best_plan_in[PLACES])(const uint8_t *, size_t, uint8_t *, uint32_t *) = {best_plan_0, best_plan_16, best_plan_32, best_plan_48};
-static void (*const limit_fill_in[PLACES])(const struct list *, const uint8_t *, uint8_t *) = {limit_fill_0, limit_fill_16, limit_fill_32, limit_fill_48};
+static void (*const limit_fill_in[PLACES])(const struct jobs *, const uint8_t *, uint8_t *) = {
+  limit_fill_0, limit_fill_16, limit_fill_32, limit_fill_48};
 static int place;
-
-static uint8_t bytes[512], ours[MAX_H], other[MAX_H], scratch[MAX_H], block[16];
-static uint32_t best_block[4], plain_block[4];
-static size_t bytes_len;
-static struct list list;
 
 static void call_ours(void) { sleep_plan_in[place](bytes, bytes_len, ours, sizeof ours, block, sizeof block); }
 static void call_best(void) { best_plan_in[place](bytes, bytes_len, other, best_block); }
 static void call_plain(void) { plain_plan(bytes, bytes_len, scratch, plain_block); }
-static void call_limit(void) { limit_fill_in[place](&list, ours, scratch); }
+static void call_limit(void) { limit_fill_in[place](&jobs, ours, scratch); }
 
 static double now(void) { struct timespec t; clock_gettime(CLOCK_MONOTONIC, &t); return (double)t.tv_sec * 1e6 + (double)t.tv_nsec / 1e3; }
 
@@ -83,7 +78,7 @@ static int differs(void) {
   int best = best_plan_in[place](bytes, bytes_len, other, best_block), plain = plain_plan(bytes, bytes_len, scratch, plain_block);
   if ((int)number != best || best != plain) return 1;
   for (int i = 0; i < 16; i++) if (block[i] != (uint8_t)(best_block[i / 4] >> 8 * (i % 4)) || best_block[i / 4] != plain_block[i / 4]) return 1;
-  return number == 0 && (memcmp(ours, other, (size_t)list.h) || memcmp(ours, scratch, (size_t)list.h));
+  return number == 0 && (memcmp(ours, other, (size_t)jobs.h) || memcmp(ours, scratch, (size_t)jobs.h));
 }
 
 /* The deepest stack that a call touches: it runs on a painted stack of its own. */
@@ -107,8 +102,7 @@ static size_t touched(void *(*what)(void *)) {
 
 int main(int argc, char **argv) {
   if (argc > 1) { /* one call on a family at 4,096 slots, for a counter of instructions */
-    make(&list, atoi(argv[1]), 4096);
-    bytes_len = spell(&list, bytes);
+    make(atoi(argv[1]), 4096);
     call_ours();
     return 0;
   }
@@ -117,15 +111,14 @@ int main(int argc, char **argv) {
   for (int f = 0; f < FAMILIES; f++) {
     double at_first = 0;
     for (int s = 0; s < SIZES; s++) {
-      make(&list, f, sizes[s]);
-      bytes_len = spell(&list, bytes);
-      for (place = 0; place < PLACES; place++) if (differs()) { printf("%s at %d: answers differ\n", family_name[f], list.h); return 1; }
+      make(f, sizes[s]);
+      for (place = 0; place < PLACES; place++) if (differs()) { printf("%s at %d: answers differ\n", family_name[f], jobs.h); return 1; }
       double l = 1e18, b = 1e18, p = least(1e18, call_plain, 1), o = 1e18;
       for (int round = 0; round < ROUNDS; round++)
         for (place = 0; place < PLACES; place++) { l = least(l, call_limit, 10); b = least(b, call_best, 10); o = least(o, call_ours, 10); }
       place = 0;
       if (s == 0) at_first = o;
-      printf("%-9s %5d %9.1f %9.1f %9.1f %9.1f %7.1f %7.2f\n", family_name[f], list.h, l, b, p, o, o / l, o / b);
+      printf("%-9s %5d %9.1f %9.1f %9.1f %9.1f %7.1f %7.2f\n", family_name[f], jobs.h, l, b, p, o, o / l, o / b);
       if (s == SIZES - 1) printf("%-9s       grows %.1f-fold from %d to %d slots\n", "", o / at_first, sizes[0], sizes[SIZES - 1]);
       size_t depth = touched(on_stack) - touched(nothing);
       if (depth > deepest) deepest = depth;

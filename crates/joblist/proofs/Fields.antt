@@ -5,31 +5,39 @@ use mathlib.Core.Bool.{Bool, true, false, _&&_}
 use mathlib.Core.List.{List}
 use native.Mathlib.Nat.{add-zero}
 use native.Mathlib.Omega.{arith}
-use borrow.Author.Tests.{le-leb, lt-leb, lt-ltb, le-ltb, eq-eqb, ne-eqb}
+use borrow.Author.Tests.{lt-ltb}
 use lib.ListN.{length, getD, drop}
 use lib.Seq.{getD-drop}
 use lib.Dec.{eqb}
-use Rattle.sched.specs.Checks.{jobCheck}
+use Rattle.sched.specs.TwoBytes.{word}
+use Rattle.sched.specs.Checks.{andThen, jobCheck}
+use Rattle.sched.specs.Checks.Laws.{then-fails, then-passes}
 use Rattle.sched.specs.declared.Refusal.{Refusal}
-use Rattle.sched.specs.declared.Refusal.the-variants.{Truncated, UnknownBit, Redundant}
+use Rattle.sched.specs.declared.Refusal.the-variants.{Truncated, Redundant}
 use Rattle.sched.specs.declared.Checked.{Checked}
 use Rattle.sched.specs.declared.Checked.the-variants.{Passed, Refused as Faulty}
-use Rattle.joblist.specs.Bytes.{word, width, absentRelease, absentDeadline, absentVolume, hasRelease, hasDeadline, hasVolume, releaseAt, deadlineAt, volumeAt, entryLength}
-use Rattle.joblist.specs.Reading.{mapOf, valueIf, redundant, fieldsCheck, entryCheck}
-use Rattle.joblist.specs.Parts.{FoundAt, entryOf}
+use Rattle.joblist.specs.Bytes.{width, absentRelease, absentDeadline, absentVolume, hasRelease}
+use Rattle.joblist.specs.Bytes.{hasDeadline, hasVolume, releaseAt, deadlineAt, volumeAt, entryLength}
+use Rattle.joblist.specs.Entries.{entryMap, entrySize, valueIf, redundant, knownMaps}
+use Rattle.joblist.specs.Entries.{mapCheck, wholeCheck, redundancyCheck, faultCheck, entryCheck}
+use Rattle.joblist.specs.Parts.{FoundAt, fieldsOf, entryOf, jobPart}
+use Rattle.joblist.specs.Laws.Entry.{whole-passes}
 use Rattle.joblist.specs.declared.entry.Found.{Found}
+use Rattle.joblist.specs.declared.entry.Fields.{Fields}
 use Rattle.joblist.specs.declared.entry.Entry.{Entry}
 use Rattle.joblist.specs.declared.entry.Entry.the-variants.{Read, Refused}
 
-pub width-small : (b : Bool) → width b ≤ 2
-width-small true = omega arith
-width-small false = omega arith
+-- the length of an entry, from its bits and their widths
+pub size-is : (map : ℕ) {w₁ w₂ w₃ : ℕ} {a b c : Bool} → a ≡ hasRelease map → b ≡ hasDeadline map → c ≡ hasVolume map →
+    w₁ ≡ width a → w₂ ≡ width b → w₃ ≡ width c → 1 + w₁ + w₂ + w₃ ≡ entryLength map
+size-is map r d p e f g = rw (e, f, g, r, d, p)
 
 pub word-at : (bs : List ℕ) (at : ℕ) → getD bs at 0 + 256 * getD bs (at + 1) 0 ≡ word (drop at bs)
 word-at bs at = simp (getD-drop, add-zero)
 
 -- a field that stands, and one that does not
-pub stands-at : (b : Bool) (absent w at : ℕ) (bs : List ℕ) → b ≡ true → w ≡ word (drop at bs) → FoundAt b absent at bs (record { value = w; next = at + 2 })
+pub stands-at : (b : Bool) (absent w at : ℕ) (bs : List ℕ) → b ≡ true → w ≡ word (drop at bs) →
+    FoundAt b absent at bs (record { value = w; next = at + 2 })
 stands-at b absent w at bs p e = record { value = rw p e; next = rw p }
 
 pub absent-at : (b : Bool) (absent at : ℕ) (bs : List ℕ) → b ≡ false → FoundAt b absent at bs (record { value = absent; next = at })
@@ -45,69 +53,101 @@ test-of-value : (stands : Bool) (absent x : ℕ) (bs : List ℕ) → x ≡ value
 test-of-value true absent x bs e = rw e
 test-of-value false absent x bs e = refl
 
-pub field-read : {stands has found test : Bool} {place absent at : ℕ} {bs : List ℕ} {f : Found} → has ≡ stands → at ≡ place → FoundAt has absent at bs f → found ≡ (has && eqb (f .value) absent) → found ≡ test → FieldRead stands place absent bs f test
+pub field-read : {stands has found test : Bool} {place absent at : ℕ} {bs : List ℕ} {f : Found} → has ≡ stands → at ≡ place →
+    FoundAt has absent at bs f → found ≡ (has && eqb (f .value) absent) → found ≡ test → FieldRead stands place absent bs f test
 field-read {has = has} {absent = absent} {at = at} {bs = bs} {f = f} s p v w e =
     rw (← s, ← p)
     record { value = v .value; next = v .next; tested = test-of-value has absent (f .value) (drop at bs) (v .value) ∙ sym w ∙ e }
 
 abbrev pub First : List ℕ → Found → Bool → Type 0
-First bs = FieldRead (hasRelease (mapOf bs)) releaseAt absentRelease bs
+First bs = FieldRead (hasRelease (entryMap bs)) releaseAt absentRelease bs
 
 abbrev pub Second : ℕ → List ℕ → Found → Bool → Type 0
-Second h bs = FieldRead (hasDeadline (mapOf bs)) (deadlineAt (mapOf bs)) (absentDeadline h) bs
+Second h bs = FieldRead (hasDeadline (entryMap bs)) (deadlineAt (entryMap bs)) (absentDeadline h) bs
 
 abbrev pub Third : List ℕ → Found → Bool → Type 0
-Third bs = FieldRead (hasVolume (mapOf bs)) (volumeAt (mapOf bs)) absentVolume bs
+Third bs = FieldRead (hasVolume (entryMap bs)) (volumeAt (entryMap bs)) absentVolume bs
 
--- the ways out of the checks of a job's fields
-module _ (h j at : ℕ) (bs : List ℕ) where
-  abbrev answer : Entry
-  answer = entryOf (fieldsCheck h j at bs) h bs
+-- the ways out of the checks of the fields
+module _ (h at : ℕ) (bs : List ℕ) where
+  abbrev fields : Entry
+  fields = entryOf (redundancyCheck h at bs) h bs
 
-  pub release-refused : {r : Found} → First bs r true → Refused (Redundant (at + releaseAt)) ≡ answer
-  unfolding fieldsCheck
+  pub release-refused : {r : Found} → First bs r true → Refused (Redundant (at + releaseAt)) ≡ fields
+  unfolding redundancyCheck
   release-refused a = rw (a .tested)
 
-  pub deadline-refused : {r d : Found} → First bs r false → Second h bs d true → Refused (Redundant (at + r .next)) ≡ answer
-  unfolding fieldsCheck
+  pub deadline-refused : {r d : Found} → First bs r false → Second h bs d true → Refused (Redundant (at + r .next)) ≡ fields
+  unfolding redundancyCheck
   deadline-refused a b = rw (a .next, a .tested, b .tested)
 
-  pub volume-refused : {r d p : Found} → First bs r false → Second h bs d false → Third bs p true → Refused (Redundant (at + d .next)) ≡ answer
-  unfolding fieldsCheck
+  pub volume-refused : {r d p : Found} → First bs r false → Second h bs d false → Third bs p true → Refused (Redundant (at + d .next)) ≡ fields
+  unfolding redundancyCheck
   volume-refused a b c = rw (b .next, a .tested, b .tested, c .tested)
 
-  module _ {r d p : Found} (a : First bs r false) (b : Second h bs d false) (c : Third bs p false) (check : Checked) (e : check ≡ jobCheck h j (r .value) (d .value) (p .value)) where
-    job-decides : (got : Checked) → check ≡ got → got ≡ fieldsCheck h j at bs
-    unfolding fieldsCheck
-    job-decides got f = sym f ∙ rw (a .tested, b .tested, c .tested, ← a .value, ← b .value, ← c .value) e
+  pub fields-read : {r d p : Found} → First bs r false → Second h bs d false → Third bs p false →
+      Read (record { release = r .value; deadline = d .value; volume = p .value; size = p .next }) ≡ fields
+  unfolding redundancyCheck
+  fields-read a b c =
+      ap Read (λ i. record { release = a .value i; deadline = b .value i; volume = c .value i; size = c .next i })
+      ∙ rw (a .tested, b .tested, c .tested)
 
-    pub job-refused : (x : Refusal) → check ≡ Faulty x → Refused x ≡ answer
-    job-refused x f = ap (λ (y : Checked). entryOf y h bs) (job-decides (Faulty x) f)
+-- what was told of an entry
+pub told-read : (h : ℕ) (rest : List ℕ) (c : Checked) (e : Entry) (f : Fields) → e ≡ entryOf c h rest → e ≡ Read f →
+    (c ≡ Passed) × (f ≡ fieldsOf h rest)
+told-read h rest Passed e f a b = (refl, cc)
+told-read h rest (Faulty r) e f a b = let z : _≡_ {A = ℕ} 0 1 = cc in absurd (omega arith)
 
-    pub job-read : check ≡ Passed → Read (record { release = r .value; deadline = d .value; volume = p .value; size = p .next }) ≡ answer
-    job-read f =
-        ap Read (λ i. record { release = a .value i; deadline = b .value i; volume = c .value i; size = c .next i })
-        ∙ ap (λ (y : Checked). entryOf y h bs) (job-decides Passed f)
+pub told-refused : (h : ℕ) (rest : List ℕ) (c : Checked) (e : Entry) (r : Refusal) → e ≡ entryOf c h rest → e ≡ Refused r → c ≡ Faulty r
+told-refused h rest Passed e r a b = let z : _≡_ {A = ℕ} 0 1 = cc in absurd (omega arith)
+told-refused h rest (Faulty x) e r a b = let s : x ≡ r = cc in ap Faulty s
+
+-- the job, once its fields are read
+module _ (h j at : ℕ) (bs : List ℕ) (e : Entry) (a : e ≡ entryOf (redundancyCheck h at bs) h bs) where
+  pub fields-refused : (r : Refusal) → e ≡ Refused r → Refused r ≡ entryOf (jobPart h j at bs) h bs
+  fields-refused r b =
+      ap (λ (c : Checked). entryOf c h bs)
+      (sym (then-fails (redundancyCheck h at bs) (faultCheck jobCheck h j bs) r (told-refused h bs (redundancyCheck h at bs) e r a b)))
+
+  module _ (f : Fields) (b : e ≡ Read f) (check : Checked) (k : check ≡ jobCheck h j (f .release) (f .deadline) (f .volume)) where
+    is : (redundancyCheck h at bs ≡ Passed) × (f ≡ fieldsOf h bs)
+    is = told-read h bs (redundancyCheck h at bs) e f a b
+
+    job-decides : (c : Checked) → check ≡ c → c ≡ jobPart h j at bs
+    job-decides c g =
+        sym g ∙ k ∙ ap (λ (x : Fields). jobCheck h j (x .release) (x .deadline) (x .volume)) (is .1)
+        ∙ sym (then-passes (redundancyCheck h at bs) (faultCheck jobCheck h j bs) (is .0))
+
+    pub job-refused : (r : Refusal) → check ≡ Faulty r → Refused r ≡ entryOf (jobPart h j at bs) h bs
+    job-refused r g = ap (λ (c : Checked). entryOf c h bs) (job-decides (Faulty r) g)
+
+    pub job-read : check ≡ Passed → Read f ≡ entryOf (jobPart h j at bs) h bs
+    job-read g = ap Read (is .1) ∙ ap (λ (c : Checked). entryOf c h bs) (job-decides Passed g)
 
 -- the ways out of the checks of an entry
-module _ (h n j at : ℕ) (bs : List ℕ) where
-  abbrev told : Entry
-  told = entryOf (entryCheck h n j at bs) h bs
+module _ (h n j at : ℕ) (bs : List ℕ) (map : Checked) (m : map ≡ mapCheck knownMaps n at bs) where
+  abbrev whole : Checked
+  whole = wholeCheck (entrySize bs) n bs
 
-  pub map-missing : length bs ≡ 0 → Refused (Truncated n) ≡ told
-  unfolding entryCheck
-  map-missing e = rw (eq-eqb (length bs) 0 e)
+  abbrev answer : Entry
+  answer = entryOf (entryCheck jobCheck h n j at bs) h bs
 
-  pub bit-unknown : (length bs ≡ 0 → ⊥) → 8 ≤ mapOf bs → Refused (UnknownBit at) ≡ told
+  pub map-refused : (r : Refusal) → map ≡ Faulty r → Refused r ≡ answer
   unfolding entryCheck
-  bit-unknown s l = rw (ne-eqb (length bs) 0 s, le-leb 8 (mapOf bs) l)
+  map-refused r e =
+      ap (λ (c : Checked). entryOf c h bs) (sym (then-fails (mapCheck knownMaps n at bs) (andThen whole (jobPart h j at bs)) r (sym m ∙ e)))
 
-  pub field-missing : (size : ℕ) → size ≡ entryLength (mapOf bs) → (length bs ≡ 0 → ⊥) → mapOf bs < 8 → length bs < size → Refused (Truncated n) ≡ told
-  unfolding entryCheck
-  field-missing size z s l t =
-      rw (ne-eqb (length bs) 0 s, lt-leb 8 (mapOf bs) l, lt-ltb (length bs) (entryLength (mapOf bs)) (omega arith))
+  module _ (e : map ≡ Passed) (size : ℕ) (s : size ≡ entrySize bs) where
+    map-passes : entryCheck jobCheck h n j at bs ≡ andThen whole (jobPart h j at bs)
+    unfolding entryCheck
+    map-passes = then-passes (mapCheck knownMaps n at bs) (andThen whole (jobPart h j at bs)) (sym m ∙ e)
 
-  pub fields-decide : (size : ℕ) (answer : Entry) → size ≡ entryLength (mapOf bs) → (length bs ≡ 0 → ⊥) → mapOf bs < 8 → size ≤ length bs → answer ≡ entryOf (fieldsCheck h j at bs) h bs → answer ≡ told
-  unfolding entryCheck
-  fields-decide size answer z s l t e =
-      rw (ne-eqb (length bs) 0 s, lt-leb 8 (mapOf bs) l, le-ltb (length bs) (entryLength (mapOf bs)) (omega arith)) e
+    pub field-missing : length bs < size → Refused (Truncated n) ≡ answer
+    field-missing l =
+        let w : whole ≡ Faulty (Truncated n) = rw (lt-ltb (length bs) (entrySize bs) (omega arith)) in
+        ap (λ (c : Checked). entryOf c h bs) (sym (map-passes ∙ then-fails whole (jobPart h j at bs) (Truncated n) w))
+
+    pub job-answers : (job : Entry) → size ≤ length bs → job ≡ entryOf (jobPart h j at bs) h bs → job ≡ answer
+    job-answers job l f =
+        let w = whole-passes (entrySize bs) n bs (omega arith) in
+        f ∙ ap (λ (c : Checked). entryOf c h bs) (sym (map-passes ∙ then-passes whole (jobPart h j at bs) w))

@@ -1,18 +1,15 @@
--- 01, "Job list bytes": numbers of two bytes, map bytes and the fields behind them, and the one spelling of a list.
-use Prim.Native.Nat.{ℕ, _+_, _*_, _/_, _%_}
+-- 01, "Job list bytes": the header, map bytes and the fields behind them, and the one spelling of a list.
+use Prim.Native.Nat.{ℕ, _+_, _*_, _/_, _%_, _<_}
 use mathlib.Core.Bool.{Bool, true, false, not}
 use mathlib.Core.List.{List, [], _∷_, _++_}
 use lib.ListN.{getD, drop}
 use lib.Dec.{eqb}
 use Rattle.sched.specs.Jobs.{Jobs, count}
+use Rattle.sched.specs.TwoBytes.{twoBytes, word}
 
--- "two bytes each, low byte first"
-abbrev pub spelled : ℕ → List ℕ
-spelled x = x % 256 ∷ x / 256 ∷ []
-
--- the number whose two bytes a list starts with
-abbrev pub word : List ℕ → ℕ
-word bs = getD bs 0 0 + 256 * getD bs 1 0
+-- a list of bytes: each entry is below 256
+abbrev pub AreBytes : List ℕ → Type 0
+AreBytes bs = (i : ℕ) → getD bs i 0 < 256
 
 -- The header: "H, then q, two bytes each, low byte first, then the number of jobs"
 abbrev pub headerLength : ℕ
@@ -24,8 +21,21 @@ headerHorizon bs = word bs
 abbrev pub headerWake : List ℕ → ℕ
 headerWake bs = word (drop 2 bs)
 
+-- the byte with the number of jobs, taken apart: the number, and the state before slot 0, which is always asleep
+abbrev pub countIn : ℕ → ℕ
+countIn byte = byte
+
+abbrev pub startIn : ℕ → Bool
+startIn byte = false
+
+abbrev pub countByte : Bool → ℕ → ℕ
+countByte start n = n
+
 abbrev pub headerCount : List ℕ → ℕ
-headerCount bs = getD bs 4 0
+headerCount bs = countIn (getD bs 4 0)
+
+abbrev pub headerStart : List ℕ → Bool
+headerStart bs = startIn (getD bs 4 0)
 
 -- "An absent release is 0, an absent deadline is H, an absent volume is 1."
 abbrev pub absentRelease : ℕ
@@ -80,7 +90,7 @@ abbrev pub stands : ℕ → ℕ → Bool
 stands absent x = not (eqb x absent)
 
 abbrev pub bytesIf : Bool → ℕ → List ℕ
-bytesIf true x = spelled x
+bytesIf true x = twoBytes x
 bytesIf false x = []
 
 unfoldable pub entryBytes : ℕ → ℕ → ℕ → ℕ → List ℕ
@@ -98,7 +108,7 @@ entriesBytes h (r ∷ rs) (d ∷ ds) [] = []
 entriesBytes h (r ∷ rs) (d ∷ ds) (p ∷ ps) = entryBytes h r d p ++ entriesBytes h rs ds ps
 
 abbrev pub header : Jobs → List ℕ
-header J = spelled (J .horizon) ++ (spelled (J .wake) ++ (count J ∷ []))
+header J = twoBytes (J .horizon) ++ (twoBytes (J .wake) ++ (countByte (J .start) (count J) ∷ []))
 
 -- the spelling of a list
 unfoldable pub spelling : Jobs → List ℕ

@@ -1,9 +1,8 @@
 -- What is proved of the definitions.
-pub mod Passing
 pub mod Entry
-pub mod Column
+pub mod Walk
 pub mod Input
 pub mod Fields
 pub mod RoundTrip
 pub mod Lists
-pub mod Handed
+pub mod Places

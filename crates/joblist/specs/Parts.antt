@@ -5,11 +5,12 @@ use mathlib.Core.Bool.{Bool}
 use mathlib.Core.List.{List, _++_}
 use lib.ListN.{length, take, drop}
 use lib.Seq.{sets}
-use Rattle.sched.specs.Checks.{andThen}
+use Rattle.sched.specs.Checks.{andThen, jobCheck}
 use Rattle.sched.specs.declared.Checked.{Checked}
 use Rattle.sched.specs.declared.Checked.the-variants.{Passed, Refused as Faulty}
-use Rattle.joblist.specs.Bytes.{headerLength, headerHorizon, headerWake, headerCount, width, entryLength, entriesBytes}
-use Rattle.joblist.specs.Reading.{mapOf, valueIf, releaseOf, deadlineOf, volumeOf, headerCheck, lentCheck, entriesCheck, column}
+use Rattle.joblist.specs.Bytes.{headerLength, headerHorizon, headerWake, headerCount, width, entriesBytes}
+use Rattle.joblist.specs.Entries.{entrySize, valueIf, releaseOf, deadlineOf, volumeOf, redundancyCheck, faultCheck, column}
+use Rattle.joblist.specs.Reading.{headerCheck, lentCheck, behindHeader}
 use Rattle.joblist.specs.declared.ListHeader.{ListHeader}
 use Rattle.joblist.specs.declared.entry.Found.{Found}
 use Rattle.joblist.specs.declared.entry.Fields.{Fields}
@@ -33,23 +34,23 @@ pub record FoundAt (stands : Bool) (absent at : ℕ) (bs : List ℕ) (f : Found)
 
 -- a map byte and all bytes of its fields, at an offset of the input
 pub record WholeEntry (at : ℕ) (bs : List ℕ) : Type 0 where
-  pub whole : entryLength (mapOf bs) ≤ length bs
+  pub whole : entrySize bs ≤ length bs
   pub fits : at + length bs < 2 ^ 64
 
 -- what is read of an entry: its fields where its checks pass
 abbrev pub fieldsOf : ℕ → List ℕ → Fields
-fieldsOf h bs = record { release = releaseOf bs; deadline = deadlineOf h bs; volume = volumeOf bs; size = entryLength (mapOf bs) }
+fieldsOf h bs = record { release = releaseOf bs; deadline = deadlineOf h bs; volume = volumeOf bs; size = entrySize bs }
 
 abbrev pub entryOf : Checked → ℕ → List ℕ → Entry
 entryOf Passed h bs = Read (fieldsOf h bs)
 entryOf (Faulty r) h bs = Refused r
 
--- the checks of the entries behind the header
-abbrev pub behindHeader : ℕ → ℕ → List ℕ → Checked
-behindHeader h count bytes = entriesCheck count h (length bytes) 0 headerLength (drop headerLength bytes)
+-- 14 and 15 of a whole entry
+abbrev pub jobPart : ℕ → ℕ → ℕ → List ℕ → Checked
+jobPart h j at bs = andThen (redundancyCheck h at bs) (faultCheck jobCheck h j bs)
 
 -- the bytes hold a header, and the three lists have room
-pub record Fillable (count : ℕ) (bytes rs ds ps : List ℕ) : Type 0 where
+pub record Loadable (count : ℕ) (bytes rs ds ps : List ℕ) : Type 0 where
   pub long : headerLength ≤ length bytes
   pub few : count ≤ 64
   pub releases : count ≤ length rs
@@ -58,18 +59,18 @@ pub record Fillable (count : ℕ) (bytes rs ds ps : List ℕ) : Type 0 where
 
 -- the answer of the walk, and the fields at the front of three lists if it passes
 pub record Walked (h count : ℕ) (bytes : List ℕ) (answer : Checked) (rs ds ps : List ℕ) : Type 0 where
-  pub told : answer ≡ behindHeader h count bytes
-  pub releases : answer ≡ Passed → take count rs ≡ column releaseOf count (drop headerLength bytes)
-  pub deadlines : answer ≡ Passed → take count ds ≡ column (deadlineOf h) count (drop headerLength bytes)
-  pub volumes : answer ≡ Passed → take count ps ≡ column volumeOf count (drop headerLength bytes)
+  pub same : answer ≡ behindHeader jobCheck h count bytes
+  pub releases : answer ≡ Passed → take count rs ≡ column entrySize releaseOf count (drop headerLength bytes)
+  pub deadlines : answer ≡ Passed → take count ds ≡ column entrySize (deadlineOf h) count (drop headerLength bytes)
+  pub volumes : answer ≡ Passed → take count ps ≡ column entrySize volumeOf count (drop headerLength bytes)
 
 -- a lent list afterwards: one field of each job, then what stood behind, or all as it was
 abbrev pub filledIf : Checked → (List ℕ → ℕ) → ℕ → List ℕ → List ℕ → List ℕ
-filledIf Passed field count bytes lent = column field count (drop headerLength bytes) ++ drop count lent
+filledIf Passed field count bytes lent = column entrySize field count (drop headerLength bytes) ++ drop count lent
 filledIf (Faulty r) field count bytes lent = lent
 
 pub record Filled (h count : ℕ) (bytes rs ds ps : List ℕ) (answer : Checked) (rs′ ds′ ps′ : List ℕ) : Type 0 where
-  pub told : answer ≡ behindHeader h count bytes
+  pub same : answer ≡ behindHeader jobCheck h count bytes
   pub releases : rs′ ≡ filledIf answer releaseOf count bytes rs
   pub deadlines : ds′ ≡ filledIf answer (deadlineOf h) count bytes ds
   pub volumes : ps′ ≡ filledIf answer volumeOf count bytes ps

@@ -3,11 +3,9 @@ use Prim.Native.Nat.{ℕ}
 use mathlib.Core.Path.{_≡_}
 use mathlib.Core.List.{List, [], _∷_, _++_}
 use lib.ListN.{length, drop}
-use lib.Dec.{ltb}
 use Rattle.sched.specs.Jobs.{Jobs}
 use Rattle.sched.specs.Refusals.{number, place}
-use Rattle.sched.specs.Checks.{unless, andThen, listCheck}
-use Rattle.sched.specs.declared.Refusal.the-variants.{TooShort}
+use Rattle.sched.specs.Checks.{andThen, lengthCheck, checkOf}
 use Rattle.sched.specs.declared.Checked.{Checked}
 use Rattle.sched.specs.declared.Checked.the-variants.{Passed, Refused as Faulty}
 use Rattle.joblist.specs.Bytes.{spelling}
@@ -15,10 +13,8 @@ use Rattle.joblist.specs.declared.ListWritten.{ListWritten}
 use Rattle.joblist.specs.declared.ListWritten.the-variants.{Written, Refused}
 
 -- the list checks, then 17 with "the list's length"
-abbrev pub writeCheck : Jobs → ℕ → Checked
-writeCheck J size =
-    andThen (listCheck (J .horizon) (J .releases) (J .deadlines) (J .volumes))
-    (unless (ltb size (length (spelling J))) (TooShort (length (spelling J))) Passed)
+abbrev pub spellCheck : Jobs → ℕ → Checked
+spellCheck J size = andThen (checkOf J) (lengthCheck size (length (spelling J)))
 
 -- the writer's answer, and the lent buffer afterwards
 pub record Writing : Type 0 where
@@ -26,12 +22,12 @@ pub record Writing : Type 0 where
   pub out : List ℕ
 
 -- "An accepted call changes no byte or entry past what it writes."
-abbrev pub afterCheck : Checked → Jobs → List ℕ → Writing
-afterCheck Passed J out = record { answer = Written (length (spelling J)); out = spelling J ++ drop (length (spelling J)) out }
-afterCheck (Faulty r) J out = record { answer = Refused r; out = out }
+abbrev pub writtenIf : Checked → Jobs → List ℕ → Writing
+writtenIf Passed J out = record { answer = Written (length (spelling J)); out = spelling J ++ drop (length (spelling J)) out }
+writtenIf (Faulty r) J out = record { answer = Refused r; out = out }
 
 unfoldable pub writing : Jobs → List ℕ → Writing
-writing J out = afterCheck (writeCheck J (length out)) J out
+writing J out = writtenIf (spellCheck J (length out)) J out
 
 -- 01's number and values of an answer: 0 with the length; a refusal's number with its place
 abbrev pub writtenNumber : ListWritten → ℕ
@@ -44,7 +40,7 @@ writtenValues (Refused r) = place r ∷ []
 
 -- what `write` promises of its answer and of the lent buffer as it returns
 pub record WritePromise (J : Jobs) (out : List ℕ) (answer : ListWritten) (out′ : List ℕ) : Type 0 where
-  pub told : answer ≡ writing J out .answer
+  pub same : answer ≡ writing J out .answer
   pub number : writtenNumber answer ≡ writtenNumber (writing J out .answer)
   pub values : writtenValues answer ≡ writtenValues (writing J out .answer)
   pub kept : out′ ≡ writing J out .out

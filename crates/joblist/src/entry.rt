@@ -4,16 +4,18 @@ ghost use mathlib.Core.Bool.{_&&_};
 ghost use Prim.Native.Nat.{_+_, _≤_};
 ghost use lib.Dec.{eqb};
 ghost use lib.ListN.{length, drop};
-ghost use Rattle.joblist.specs.Bytes.{word, hasRelease, hasDeadline, hasVolume, width, entryLength};
-ghost use Rattle.joblist.specs.Reading.{fieldsCheck, entryCheck};
-ghost use Rattle.joblist.specs.Parts.{FoundAt, WholeEntry, entryOf};
+ghost use Rattle.sched.specs.TwoBytes.{word};
+ghost use Rattle.sched.specs.Checks.{jobCheck};
+ghost use Rattle.joblist.specs.Bytes.{hasRelease, hasDeadline, hasVolume, width, entryLength};
+ghost use Rattle.joblist.specs.Entries.{mapCheck, redundancyCheck, entryCheck};
+ghost use Rattle.joblist.specs.Parts.{FoundAt, WholeEntry, entryOf, jobPart};
 use sched::Checked;
 use sched::Refusal;
 
 // A field's value, and the offset behind the field.
-struct Found {
-    value: u16,
-    next: usize,
+pub struct Found {
+    pub value: u16,
+    pub next: usize,
 }
 
 // The fields of a job, and the length of its entry.
@@ -70,7 +72,7 @@ fn size(map: u8) -> usize
 }
 
 // The field at an offset: its value, or the absent value if it does not stand.
-fn field(stands: bool, absent: u16, bytes: &[u8], at: usize) -> Found
+pub fn field(stands: bool, absent: u16, bytes: &[u8], at: usize) -> Found
     requires { ⌜ at + width stands ≤ length (now bytes) ⌝ }
     ensures { λ f. ⌜ FoundAt stands absent at (now (bytes .entry)) f ⌝ }
 {
@@ -88,16 +90,29 @@ fn field(stands: bool, absent: u16, bytes: &[u8], at: usize) -> Found
 }
 
 // Whether a field stands with its absent value, given the value read.
-fn is_redundant(stands: bool, absent: u16, x: u16) -> bool
+pub fn is_redundant(stands: bool, absent: u16, x: u16) -> bool
     ensures { λ r. ⌜ r ≡ (stands && eqb x absent) ⌝ }
 {
     if stands { x == absent } else { false }
 }
 
-// The fields of a job whose entry is whole, read and checked; its map byte stands at offset `at` of the input.
-fn read_fields(h: u16, job: usize, at: usize, bytes: &[u8]) -> Entry
+// 11 and 13 for the map byte at offset `at` of an input of `total` bytes; maps from `maps` on are unknown.
+pub fn check_map(maps: u8, total: usize, at: usize, bytes: &[u8]) -> Checked
+    ensures { λ c. ⌜ c ≡ mapCheck maps total at (now (bytes .entry)) ⌝ }
+{
+    if bytes.len() == 0 {
+        return Checked::Refused(Refusal::Truncated(total));
+    }
+    if maps <= bytes[0] {
+        return Checked::Refused(Refusal::UnknownBit(at));
+    }
+    Checked::Passed
+}
+
+// The fields of an entry that is whole, refused where one stands with its absent value; its map byte stands at offset `at` of the input.
+pub fn read_fields(h: u16, at: usize, bytes: &[u8]) -> Entry
     requires { ⌜ WholeEntry at (now bytes) ⌝ }
-    ensures { λ e. ⌜ e ≡ entryOf (fieldsCheck h job at (now (bytes .entry))) h (now (bytes .entry)) ⌝ }
+    ensures { λ e. ⌜ e ≡ entryOf (redundancyCheck h at (now (bytes .entry))) h (now (bytes .entry)) ⌝ }
 {
     let map = bytes[0];
     let has = has_release(map);
@@ -115,31 +130,40 @@ fn read_fields(h: u16, job: usize, at: usize, bytes: &[u8]) -> Entry
     if is_redundant(has, 1, third.value) {
         return Entry::Refused(Refusal::Redundant(at + second.next));
     }
-    match sched::check_job(h, job, first.value, second.value, third.value) {
-        Checked::Passed => Entry::Read(Fields {
-            release: first.value,
-            deadline: second.value,
-            volume: third.value,
-            size: third.next,
-        }),
-        Checked::Refused(r) => Entry::Refused(r),
+    Entry::Read(Fields {
+        release: first.value,
+        deadline: second.value,
+        volume: third.value,
+        size: third.next,
+    })
+}
+
+// The job of an entry that is whole, read and checked.
+fn read_job(h: u16, job: usize, at: usize, bytes: &[u8]) -> Entry
+    requires { ⌜ WholeEntry at (now bytes) ⌝ }
+    ensures { λ e. ⌜ e ≡ entryOf (jobPart h job at (now (bytes .entry))) h (now (bytes .entry)) ⌝ }
+{
+    match read_fields(h, at, bytes) {
+        Entry::Read(f) => match sched::check_job(h, job, f.release, f.deadline, f.volume) {
+            Checked::Passed => Entry::Read(f),
+            Checked::Refused(r) => Entry::Refused(r),
+        },
+        Entry::Refused(r) => Entry::Refused(r),
     }
 }
 
 // A job's entry, read and checked. It starts at offset `at` of an input of `total` bytes, and `bytes` are all that follow.
 pub fn read(h: u16, total: usize, job: usize, at: usize, bytes: &[u8]) -> Entry
     requires { ⌜ at + length (now bytes) ≡ total ⌝ }
-    ensures { λ e. ⌜ e ≡ entryOf (entryCheck h total job at (now (bytes .entry))) h (now (bytes .entry)) ⌝ }
+    ensures { λ e. ⌜ e ≡ entryOf (entryCheck jobCheck h total job at (now (bytes .entry))) h (now (bytes .entry)) ⌝ }
 {
-    if bytes.len() == 0 {
-        return Entry::Refused(Refusal::Truncated(total));
+    match check_map(8, total, at, bytes) {
+        Checked::Passed => {
+            if bytes.len() < size(bytes[0]) {
+                return Entry::Refused(Refusal::Truncated(total));
+            }
+            read_job(h, job, at, bytes)
+        }
+        Checked::Refused(r) => Entry::Refused(r),
     }
-    let map = bytes[0];
-    if 8 <= map {
-        return Entry::Refused(Refusal::UnknownBit(at));
-    }
-    if bytes.len() < size(map) {
-        return Entry::Refused(Refusal::Truncated(total));
-    }
-    read_fields(h, job, at, bytes)
 }

@@ -34,7 +34,8 @@ pub fn read(
     deadlines: &mut [u16],
     volumes: &mut [u16],
 ) -> ListRead
-    ensures { λ r. ⌜ ReadPromise (now (bytes .entry)) (now (releases .entry)) (now (deadlines .entry)) (now (volumes .entry)) r (now (releases .exit)) (now (deadlines .exit)) (now (volumes .exit)) ⌝ }
+    ensures { λ r. ⌜ ReadPromise (now (bytes .entry)) (now (releases .entry)) (now (deadlines .entry)) (now (volumes .entry)) r
+        (now (releases .exit)) (now (deadlines .exit)) (now (volumes .exit)) ⌝ }
 {
     match reader::check(bytes, releases.len(), deadlines.len(), volumes.len()) {
         Checked::Passed => {
@@ -57,16 +58,19 @@ pub fn write(
     volumes: &[u16],
     out: &mut [u8],
 ) -> ListWritten
-    ensures { λ r. ⌜ WritePromise (jobsOf h q (now (releases .entry)) (now (deadlines .entry)) (now (volumes .entry))) (now (out .entry)) r (now (out .exit)) ⌝ }
+    ensures { λ r. ⌜ WritePromise (jobsOf h q (now (releases .entry)) (now (deadlines .entry)) (now (volumes .entry)))
+        (now (out .entry)) r (now (out .exit)) ⌝ }
 {
     match sched::check_list(h, releases, deadlines, volumes) {
         Checked::Passed => {
             let size = writer::size(h, releases, deadlines, volumes);
-            if out.len() < size {
-                return ListWritten::Refused(Refusal::TooShort(size));
+            match sched::check_length(out.len(), size) {
+                Checked::Passed => {
+                    writer::put(h, q, releases, deadlines, volumes, out);
+                    ListWritten::Written(size)
+                }
+                Checked::Refused(r) => ListWritten::Refused(r),
             }
-            writer::put(h, q, releases, deadlines, volumes, out);
-            ListWritten::Written(size)
         }
         Checked::Refused(r) => ListWritten::Refused(r),
     }

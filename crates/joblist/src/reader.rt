@@ -2,14 +2,21 @@
 ghost use mathlib.Core.Path.{_≡_};
 ghost use Prim.Native.Nat.{_≤_};
 ghost use lib.ListN.{length};
-ghost use Rattle.joblist.specs.Bytes.{headerLength};
+ghost use Rattle.joblist.specs.Bytes.{headerLength, countIn};
 ghost use Rattle.joblist.specs.Reading.{headerCheck, lentCheck};
-ghost use Rattle.joblist.specs.Parts.{HeaderOf, frontCheck, Fillable, Walked, Filled};
+ghost use Rattle.joblist.specs.Parts.{HeaderOf, frontCheck, Loadable, Walked, Filled};
 use super::ListHeader;
 use super::entry;
 use super::entry::Entry;
 use sched::Checked;
 use sched::Refusal;
+
+// The number of jobs that its byte says.
+fn count_in(byte: u8) -> usize
+    ensures { λ r. ⌜ r ≡ countIn byte ⌝ }
+{
+    byte as usize
+}
 
 // The header of bytes that hold one.
 pub fn header(bytes: &[u8]) -> ListHeader
@@ -19,7 +26,7 @@ pub fn header(bytes: &[u8]) -> ListHeader
     ListHeader {
         h: entry::word(bytes, 0),
         q: entry::word(bytes, 2),
-        count: bytes[4] as usize,
+        count: count_in(bytes[4]),
     }
 }
 
@@ -30,32 +37,23 @@ fn check_header(bytes: &[u8]) -> Checked
         return Checked::Refused(Refusal::Truncated(bytes.len()));
     }
     let list = header(bytes);
-    if list.h == 0 {
-        return Checked::Refused(Refusal::OutOfRange(0));
+    match sched::check_horizon(list.h) {
+        Checked::Passed => sched::check_count(list.count),
+        Checked::Refused(r) => Checked::Refused(r),
     }
-    if 4096 < list.h {
-        return Checked::Refused(Refusal::OutOfRange(0));
-    }
-    if 64 < list.count {
-        return Checked::Refused(Refusal::OutOfRange(4));
-    }
-    Checked::Passed
 }
 
 // The three lent lists hold `count` jobs.
 fn check_lent(count: usize, releases: usize, deadlines: usize, volumes: usize) -> Checked
     ensures { λ c. ⌜ c ≡ lentCheck count releases deadlines volumes ⌝ }
 {
-    if releases < count {
-        return Checked::Refused(Refusal::TooShort(count));
+    match sched::check_length(releases, count) {
+        Checked::Passed => match sched::check_length(deadlines, count) {
+            Checked::Passed => sched::check_length(volumes, count),
+            Checked::Refused(r) => Checked::Refused(r),
+        },
+        Checked::Refused(r) => Checked::Refused(r),
     }
-    if deadlines < count {
-        return Checked::Refused(Refusal::TooShort(count));
-    }
-    if volumes < count {
-        return Checked::Refused(Refusal::TooShort(count));
-    }
-    Checked::Passed
 }
 
 // The checks before the entries, given the lengths of the three lent lists.
@@ -80,7 +78,7 @@ fn walk(
     deadlines: &mut [u16],
     volumes: &mut [u16],
 ) -> Checked
-    requires { ⌜ Fillable count (now bytes) (now releases) (now deadlines) (now volumes) ⌝ }
+    requires { ⌜ Loadable count (now bytes) (now releases) (now deadlines) (now volumes) ⌝ }
     ensures { λ c. ⌜ Walked h count (now (bytes .entry)) c (now (releases .exit)) (now (deadlines .exit)) (now (volumes .exit)) ⌝ }
 {
     let total = bytes.len();
@@ -116,8 +114,9 @@ pub fn fill(
     deadlines: &mut [u16],
     volumes: &mut [u16],
 ) -> Checked
-    requires { ⌜ Fillable count (now bytes) (now releases) (now deadlines) (now volumes) ⌝ }
-    ensures { λ c. ⌜ Filled h count (now (bytes .entry)) (now (releases .entry)) (now (deadlines .entry)) (now (volumes .entry)) c (now (releases .exit)) (now (deadlines .exit)) (now (volumes .exit)) ⌝ }
+    requires { ⌜ Loadable count (now bytes) (now releases) (now deadlines) (now volumes) ⌝ }
+    ensures { λ c. ⌜ Filled h count (now (bytes .entry)) (now (releases .entry)) (now (deadlines .entry)) (now (volumes .entry)) c
+        (now (releases .exit)) (now (deadlines .exit)) (now (volumes .exit)) ⌝ }
 {
     let mut first = [0u16; 64];
     let mut second = [0u16; 64];

@@ -1,11 +1,14 @@
 // The length of a list's bytes, and the bytes.
 ghost use mathlib.Core.Path.{_≡_};
+ghost use mathlib.Core.Bool.{false};
 ghost use mathlib.Core.List.{[], _∷_, _++_};
 ghost use Prim.Native.Nat.{_+_, _≤_};
 ghost use lib.ListN.{length};
 ghost use lib.Seq.{sets};
 ghost use Rattle.sched.specs.Jobs.{jobsOf};
-ghost use Rattle.joblist.specs.Bytes.{headerLength, spelled, absentRelease, absentDeadline, absentVolume, bit, mapByte, stands, bytesIf, entryBytes, entriesBytes, spelling};
+ghost use Rattle.sched.specs.TwoBytes.{twoBytes};
+ghost use Rattle.joblist.specs.Bytes.{headerLength, countByte, absentRelease, absentDeadline, absentVolume, bit, mapByte, stands};
+ghost use Rattle.joblist.specs.Bytes.{bytesIf, entryBytes, entriesBytes, spelling};
 ghost use Rattle.joblist.specs.Parts.{EqualLists, Puttable, PutAt};
 
 fn bit(stands: bool) -> u8
@@ -71,9 +74,17 @@ fn put_entry(h: u16, r: u16, d: u16, p: u16, at: usize, out: &mut [u8]) -> usize
     put_field(1, p, volume_at, out)
 }
 
+// The byte with the number of jobs; the processor sleeps before slot 0.
+fn count_byte(n: usize) -> u8
+    requires { ⌜ n ≤ 64 ⌝ }
+    ensures { λ r. ⌜ r ≡ countByte false n ⌝ }
+{
+    n as u8
+}
+
 fn put_header(h: u16, q: u16, count: u8, out: &mut [u8])
     requires { ⌜ headerLength ≤ length (now out) ⌝ }
-    ensures { λ _. ⌜ now (out .exit) ≡ sets (now (out .entry)) 0 (spelled h ++ (spelled q ++ (count ∷ []))) ⌝ }
+    ensures { λ _. ⌜ now (out .exit) ≡ sets (now (out .entry)) 0 (twoBytes h ++ (twoBytes q ++ (count ∷ []))) ⌝ }
 {
     out[0] = (h % 256) as u8;
     out[1] = (h / 256) as u8;
@@ -84,7 +95,8 @@ fn put_header(h: u16, q: u16, count: u8, out: &mut [u8])
 
 fn put_entries(h: u16, releases: &[u16], deadlines: &[u16], volumes: &[u16], out: &mut [u8])
     requires { ⌜ Puttable h (now releases) (now deadlines) (now volumes) (now out) ⌝ }
-    ensures { λ _. ⌜ now (out .exit) ≡ sets (now (out .entry)) headerLength (entriesBytes h (now (releases .entry)) (now (deadlines .entry)) (now (volumes .entry))) ⌝ }
+    ensures { λ _. ⌜ now (out .exit) ≡ sets (now (out .entry)) headerLength
+        (entriesBytes h (now (releases .entry)) (now (deadlines .entry)) (now (volumes .entry))) ⌝ }
 {
     let mut at = 5;
     let mut job = 0;
@@ -97,8 +109,9 @@ fn put_entries(h: u16, releases: &[u16], deadlines: &[u16], volumes: &[u16], out
 // The bytes of a list that passes the checks, into a buffer that holds them.
 pub fn put(h: u16, q: u16, releases: &[u16], deadlines: &[u16], volumes: &[u16], out: &mut [u8])
     requires { ⌜ Puttable h (now releases) (now deadlines) (now volumes) (now out) ⌝ }
-    ensures { λ _. ⌜ now (out .exit) ≡ sets (now (out .entry)) 0 (spelling (jobsOf h q (now (releases .entry)) (now (deadlines .entry)) (now (volumes .entry)))) ⌝ }
+    ensures { λ _. ⌜ now (out .exit) ≡ sets (now (out .entry)) 0
+        (spelling (jobsOf h q (now (releases .entry)) (now (deadlines .entry)) (now (volumes .entry)))) ⌝ }
 {
-    put_header(h, q, releases.len() as u8, out);
+    put_header(h, q, count_byte(releases.len()), out);
     put_entries(h, releases, deadlines, volumes, out);
 }

@@ -13,19 +13,19 @@ use lib.Seq.{take-all, getD-set-same, getD-set-other}
 use lib.Dec.{leb, ltb}
 use Rattle.sched.specs.Bounded.Laws.{by-bool}
 use Rattle.sched.specs.Slots.{times}
-use Rattle.sched.specs.Checks.{unless, andThen}
+use Rattle.sched.specs.Checks.{refuseIf, andThen}
 use Rattle.sched.specs.declared.Refusal.{Refusal}
 use Rattle.sched.specs.declared.Refusal.the-variants.{TooRare}
 use Rattle.sched.specs.declared.Checked.{Checked}
 use Rattle.sched.specs.declared.Checked.the-variants.{Passed, Refused}
 use Rattle.judge.specs.Faults.Laws.{slot-good}
-use Rattle.judge.specs.Times.{times-named, times-other}
-use Rattle.judge.specs.Faults.{Sized, slotFault, slotCheck, slotsFrom, rareFrom, tableCheck}
+use Rattle.sched.specs.Slots.Laws.{times-named, times-unnamed}
+use Rattle.judge.specs.Faults.{Sized, slotFault, slotCheck, slotsFrom, rareFrom, faultsBy, faultsCheck}
 
 -- the jobs
 
 module _ (named : ℕ → ℕ) (ps : List ℕ) (all : Checked) (n j : ℕ) (e : all ≡ rareFrom (n - j) j named ps) where
-  rare-turn : j < n → rareFrom (n - j) j named ps ≡ unless (ltb (named j) (getD ps j 0)) (TooRare j) (rareFrom (n - (j + 1)) (j + 1) named ps)
+  rare-turn : j < n → rareFrom (n - j) j named ps ≡ refuseIf (ltb (named j) (getD ps j 0)) (TooRare j) (rareFrom (n - (j + 1)) (j + 1) named ps)
   unfolding rareFrom
   rare-turn l = let q : n - j ≡ suc (n - (j + 1)) = omega arith in rw (q, ← add-one j)
 
@@ -44,7 +44,7 @@ pub rare-same : (k j : ℕ) (f g : ℕ → ℕ) (ps : List ℕ) → ((i : ℕ) �
 unfolding rareFrom
 rare-same zero j f g ps e = refl
 rare-same (suc k) j f g ps e =
-    ap₂ (λ (x : ℕ) (c : Checked). unless (ltb x (getD ps j 0)) (TooRare j) c) (e j (omega arith))
+    ap₂ (λ (x : ℕ) (c : Checked). refuseIf (ltb x (getD ps j 0)) (TooRare j) c) (e j (omega arith))
     (rare-same k (suc j) f g ps (λ i l. e i (omega arith)))
 
 -- the slots
@@ -71,20 +71,20 @@ module _ (n : ℕ) (named table : List ℕ) (t : ℕ) (l : t < length table) (co
       go (yes e) = rw e (getD-set-same named j (getD named j 0 + 1) 0 (omega arith) ∙ omega (arith, counts j m, times-named j t table l e))
       go (no e) =
           getD-set-other named (getD table t 0) j (getD named (getD table t 0) 0 + 1) 0 (λ q. e (sym q)) ∙ counts j m
-          ∙ sym (times-other j t table l e)
+          ∙ sym (times-unnamed j t table l e)
 
   counts-other : n ≤ getD table t 0 → Counts n named table (t + 1)
-  counts-other b j m = rw (add-one t) (counts j m ∙ sym (times-other j t table l (omega arith)))
+  counts-other b j m = rw (add-one t) (counts j m ∙ sym (times-unnamed j t table l (omega arith)))
 
 -- what the whole check gives is what is left to check from slot t on
 pub record Walk (rs ds ps table named : List ℕ) (t : ℕ) : Type 0 where
   pub within : t ≤ length table
   pub counters : length named ≡ 64
   pub counts : Counts (length rs) named table t
-  pub rest : tableCheck rs ds ps table ≡ andThen (slotsFrom (length table - t) t rs ds ps table) (rareFrom (length rs) 0 (λ j. times j table) ps)
+  pub rest : faultsCheck rs ds ps table ≡ andThen (slotsFrom slotFault (length table - t) t rs ds ps table) (rareFrom (length rs) 0 (λ j. times j table) ps)
 
 pub walk-start : (rs ds ps table : List ℕ) → Sized rs ds ps → Walk rs ds ps table (replicate 64 0) 0
-unfolding tableCheck times
+unfolding faultsBy times
 walk-start rs ds ps table z =
     record {
       within = omega arith;
@@ -100,22 +100,22 @@ module _ (rs ds ps table named : List ℕ) (t : ℕ) (w : Walk rs ds ps table na
       let byte = getD table t 0 in
       slotFault (length rs) (getD rs byte 0) (getD ds byte 0) t byte (leb (getD ps byte 0) (getD named byte 0))
 
-  fault-here : faultHere ≡ slotCheck rs ds ps table t
+  fault-here : faultHere ≡ slotCheck slotFault rs ds ps table t
   fault-here =
       spent-same (length rs) (getD rs (getD table t 0) 0) (getD ds (getD table t 0) 0) t (getD table t 0) _ _
       (λ l. ap (leb (getD ps (getD table t 0) 0)) (w .counts (getD table t 0) l))
 
-  slots-turn : t < length table → slotsFrom (length table - t) t rs ds ps table ≡ andThen (slotCheck rs ds ps table t) (slotsFrom (length table - (t + 1)) (t + 1) rs ds ps table)
+  slots-turn : t < length table → slotsFrom slotFault (length table - t) t rs ds ps table ≡ andThen (slotCheck slotFault rs ds ps table t) (slotsFrom slotFault (length table - (t + 1)) (t + 1) rs ds ps table)
   unfolding slotsFrom
   slots-turn l = let q : length table - t ≡ suc (length table - (t + 1)) = omega arith in rw (q, ← add-one t)
 
   -- the rest after a turn in which slot t gave c
-  turned : (c : Checked) → t < length table → faultHere ≡ c → tableCheck rs ds ps table ≡ andThen (andThen c (slotsFrom (length table - (t + 1)) (t + 1) rs ds ps table)) (rareFrom (length rs) 0 (λ j. times j table) ps)
+  turned : (c : Checked) → t < length table → faultHere ≡ c → faultsCheck rs ds ps table ≡ andThen (andThen c (slotsFrom slotFault (length table - (t + 1)) (t + 1) rs ds ps table)) (rareFrom (length rs) 0 (λ j. times j table) ps)
   turned c l e =
       w .rest
       ∙ ap (λ (x : Checked). andThen x (rareFrom (length rs) 0 (λ j. times j table) ps))
       (slots-turn l
-      ∙ ap (λ (x : Checked). andThen x (slotsFrom (length table - (t + 1)) (t + 1) rs ds ps table)) (sym fault-here ∙ e))
+      ∙ ap (λ (x : Checked). andThen x (slotsFrom slotFault (length table - (t + 1)) (t + 1) rs ds ps table)) (sym fault-here ∙ e))
 
   pub walk-job : Sized rs ds ps → t < length table → getD table t 0 < length rs → faultHere ≡ Passed → Walk rs ds ps table (set named (getD table t 0) (getD named (getD table t 0) 0 + 1)) (t + 1)
   walk-job z l b e =
@@ -135,7 +135,7 @@ module _ (rs ds ps table named : List ℕ) (t : ℕ) (w : Walk rs ds ps table na
         rest = turned Passed l e;
       }
 
-  pub walk-stop : (r : Refusal) → t < length table → faultHere ≡ Refused r → Refused r ≡ tableCheck rs ds ps table
+  pub walk-stop : (r : Refusal) → t < length table → faultHere ≡ Refused r → Refused r ≡ faultsCheck rs ds ps table
   walk-stop r l e = sym (turned (Refused r) l e)
 
   -- the counter of a job that slot t may name has not reached p
@@ -144,7 +144,7 @@ module _ (rs ds ps table named : List ℕ) (t : ℕ) (w : Walk rs ds ps table na
       leb-false (getD ps (getD table t 0) 0) (getD named (getD table t 0) 0)
       (slot-good (length rs) (getD rs (getD table t 0) 0) (getD ds (getD table t 0) 0) t (getD table t 0) (leb (getD ps (getD table t 0) 0) (getD named (getD table t 0) 0)) e .unspent b)
 
-  pub walk-end : Sized rs ds ps → length table ≤ t → rareFrom (length ps) 0 (λ j. getD named j 0) ps ≡ tableCheck rs ds ps table
+  pub walk-end : Sized rs ds ps → length table ≤ t → rareFrom (length ps) 0 (λ j. getD named j 0) ps ≡ faultsCheck rs ds ps table
   unfolding slotsFrom
   walk-end z l =
       let n : length table - t ≡ 0 = omega arith in

@@ -9,9 +9,9 @@ use Rattle.sched.specs.Slots.{times, awakeOf}
 use Rattle.sched.specs.Energy.{awakeSlots, runsFrom}
 use Rattle.sched.specs.declared.Refusal.the-variants.{BadByte, TooOften, OutOfSpan, TooRare}
 use Rattle.judge.specs.declared.Judged.the-variants.{Accepted, Refused}
-use Rattle.judge.specs.Faults.{slotsFrom, rareFrom, tableCheck}
-use Rattle.judge.specs.Verdict.{judgedTable, judged}
-use Rattle.judge.specs.Stretches.{leading, stretchesFrom, stretches}
+use Rattle.judge.specs.Faults.{slotsFrom, rareFrom, faultsBy}
+use Rattle.judge.specs.Verdict.{judged}
+use Rattle.sched.specs.Runs.{leading, runListFrom, runList}
 
 -- H 10, q 3, (0,3,1) (8,10,2) (0,10,5)
 abbrev third : Jobs
@@ -21,11 +21,11 @@ abbrev thirdTable : List ℕ
 thirdTable = 0 ∷ 2 ∷ 2 ∷ 2 ∷ 2 ∷ 2 ∷ 255 ∷ 255 ∷ 1 ∷ 1 ∷ []
 
 pub third-accepted : judged third thirdTable ≡ Accepted (record { energy = 14; awake = 8; runs = 2 })
-unfolding judged judgedTable tableCheck slotsFrom rareFrom checkFrom times awakeSlots runsFrom
+unfolding judged faultsBy slotsFrom rareFrom checkFrom times awakeSlots runsFrom
 third-accepted = refl
 
-pub third-stretches : stretches (awakeOf thirdTable) ≡ record { first = 0; slots = 6 } ∷ record { first = 8; slots = 2 } ∷ []
-unfolding stretchesFrom leading
+pub third-stretches : runList (awakeOf thirdTable) ≡ record { first = 0; slots = 6 } ∷ record { first = 8; slots = 2 } ∷ []
+unfolding runListFrom leading
 third-stretches = refl
 
 -- one job (0,2,1) in three slots
@@ -34,17 +34,17 @@ small = jobsOf 3 0 (0 ∷ []) (2 ∷ []) (1 ∷ [])
 
 -- slot 2 repeats the job and lies outside its span: 22 comes first
 pub named-twice : judged small (255 ∷ 0 ∷ 0 ∷ []) ≡ Refused (TooOften 2)
-unfolding judged judgedTable tableCheck slotsFrom rareFrom checkFrom times awakeSlots runsFrom
+unfolding judged faultsBy slotsFrom rareFrom checkFrom times awakeSlots runsFrom
 named-twice = refl
 
 pub named-outside : judged small (255 ∷ 255 ∷ 0 ∷ []) ≡ Refused (OutOfSpan 2)
-unfolding judged judgedTable tableCheck slotsFrom rareFrom checkFrom times awakeSlots runsFrom
+unfolding judged faultsBy slotsFrom rareFrom checkFrom times awakeSlots runsFrom
 named-outside = refl
 
 pub no-such-job : judged small (255 ∷ 1 ∷ 0 ∷ []) ≡ Refused (BadByte 1)
-unfolding judged judgedTable tableCheck slotsFrom rareFrom checkFrom times awakeSlots runsFrom
+unfolding judged faultsBy slotsFrom rareFrom checkFrom times awakeSlots runsFrom
 no-such-job = refl
 
 pub never-named : judged small (254 ∷ 255 ∷ 254 ∷ []) ≡ Refused (TooRare 0)
-unfolding judged judgedTable tableCheck slotsFrom rareFrom checkFrom times awakeSlots runsFrom
+unfolding judged faultsBy slotsFrom rareFrom checkFrom times awakeSlots runsFrom
 never-named = refl

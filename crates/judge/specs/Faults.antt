@@ -7,7 +7,7 @@ use mathlib.Core.List.{List}
 use lib.ListN.{length, getD, take}
 use lib.Dec.{leb, ltb, eqb}
 use Rattle.sched.specs.Slots.{times, idle, asleep}
-use Rattle.sched.specs.Checks.{unless, andThen}
+use Rattle.sched.specs.Checks.{refuseIf, andThen}
 use Rattle.sched.specs.declared.Checked.{Checked}
 use Rattle.sched.specs.declared.Checked.the-variants.{Passed}
 use Rattle.sched.specs.declared.Refusal.the-variants.{BadByte, TooOften, OutOfSpan, TooRare}
@@ -20,33 +20,41 @@ pub record Sized (rs ds ps : List ℕ) : Type 0 where
   pub same-volumes : length ps ≡ length rs
   pub few : length rs ≤ 64
 
+-- a check of a slot, from the number of jobs, the release and deadline of the job that its byte names, the slot, the byte, and `spent`
+abbrev pub SlotCheck : Type 0
+SlotCheck = ℕ → ℕ → ℕ → ℕ → ℕ → Bool → Checked
+
 -- the faults at slot t, in their order: r and d are those of the job that the byte names, and `spent` says that earlier slots already
 -- named it p times
-abbrev pub slotFault : ℕ → ℕ → ℕ → ℕ → ℕ → Bool → Checked
+abbrev pub slotFault : SlotCheck
 slotFault n r d t byte spent =
-    unless (leb n byte && not (eqb byte idle) && not (eqb byte asleep)) (BadByte t)
-    (unless (ltb byte n && spent) (TooOften t)
-    (unless (ltb byte n && (ltb t r || leb d t)) (OutOfSpan t) Passed))
+    refuseIf (leb n byte && not (eqb byte idle) && not (eqb byte asleep)) (BadByte t)
+    (refuseIf (ltb byte n && spent) (TooOften t)
+    (refuseIf (ltb byte n && (ltb t r || leb d t)) (OutOfSpan t) Passed))
 
 -- the byte j stands p times or more in these slots
 abbrev pub spentIn : List ℕ → List ℕ → ℕ → Bool
 spentIn ps slots j = leb (getD ps j 0) (times j slots)
 
-abbrev pub slotCheck : List ℕ → List ℕ → List ℕ → List ℕ → ℕ → Checked
-slotCheck rs ds ps table t =
+abbrev pub slotCheck : SlotCheck → List ℕ → List ℕ → List ℕ → List ℕ → ℕ → Checked
+slotCheck fault rs ds ps table t =
     let byte = getD table t 0 in
-    slotFault (length rs) (getD rs byte 0) (getD ds byte 0) t byte (spentIn ps (take t table) byte)
+    fault (length rs) (getD rs byte 0) (getD ds byte 0) t byte (spentIn ps (take t table) byte)
 
--- the k slots from slot t on
-unfoldable pub slotsFrom : ℕ → ℕ → List ℕ → List ℕ → List ℕ → List ℕ → Checked
-slotsFrom zero t rs ds ps table = Passed
-slotsFrom (suc k) t rs ds ps table = andThen (slotCheck rs ds ps table t) (slotsFrom k (suc t) rs ds ps table)
+-- the k slots from slot t on, each by the same check
+unfoldable pub slotsFrom : SlotCheck → ℕ → ℕ → List ℕ → List ℕ → List ℕ → List ℕ → Checked
+slotsFrom fault zero t rs ds ps table = Passed
+slotsFrom fault (suc k) t rs ds ps table = andThen (slotCheck fault rs ds ps table t) (slotsFrom fault k (suc t) rs ds ps table)
 
 -- 24, "a job stands fewer than p times", for the k jobs from j on; `named` says how often each stands
 unfoldable pub rareFrom : ℕ → ℕ → (ℕ → ℕ) → List ℕ → Checked
 rareFrom zero j named ps = Passed
-rareFrom (suc k) j named ps = unless (ltb (named j) (getD ps j 0)) (TooRare j) (rareFrom k (suc j) named ps)
+rareFrom (suc k) j named ps = refuseIf (ltb (named j) (getD ps j 0)) (TooRare j) (rareFrom k (suc j) named ps)
 
-unfoldable pub tableCheck : List ℕ → List ℕ → List ℕ → List ℕ → Checked
-tableCheck rs ds ps table =
-    andThen (slotsFrom (length table) 0 rs ds ps table) (rareFrom (length rs) 0 (λ j. times j table) ps)
+unfoldable pub faultsBy : SlotCheck → List ℕ → List ℕ → List ℕ → List ℕ → Checked
+faultsBy fault rs ds ps table =
+    andThen (slotsFrom fault (length table) 0 rs ds ps table) (rareFrom (length rs) 0 (λ j. times j table) ps)
+
+-- "slots in rising order, at each slot 21, 22, 23; then 24 for the lowest job"
+abbrev pub faultsCheck : List ℕ → List ℕ → List ℕ → List ℕ → Checked
+faultsCheck = faultsBy slotFault

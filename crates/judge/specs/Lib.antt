@@ -1,7 +1,5 @@
 -- The judge's part of 01 in formulas. Files named Laws hold what is proved of the definitions beside them; Theorems says what the judge is worth.
 pub mod Faults
 pub mod Verdict
-pub mod Times
-pub mod Stretches
 pub mod Theorems
 pub mod Cases

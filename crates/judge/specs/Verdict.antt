@@ -1,21 +1,19 @@
 -- 01, "From list to table", last paragraph: the judge's answer for every list and table, and 01's number and values for each of its cases.
 use Prim.Native.Nat.{ℕ}
 use mathlib.Core.Path.{_≡_}
-use mathlib.Core.Bool.{true, false}
+use mathlib.Core.Bool.{false}
 use mathlib.Core.List.{List, [], _∷_}
 use lib.ListN.{length, take}
-use lib.Dec.{ltb}
 use Rattle.sched.specs.Jobs.{Jobs}
 use Rattle.sched.specs.Refusals.{number, place}
-use Rattle.sched.specs.Checks.{listCheck}
+use Rattle.sched.specs.Checks.{andThen, lengthCheck, checkOf}
 use Rattle.sched.specs.Energy.{tableFigures}
 use Rattle.sched.specs.declared.Checked.{Checked}
 use Rattle.sched.specs.declared.Checked.the-variants.{Passed, Refused as Faulty}
-use Rattle.sched.specs.declared.Refusal.the-variants.{TooShort}
 use Rattle.sched.specs.declared.Figures.{Figures}
 use Rattle.judge.specs.declared.Judged.{Judged}
 use Rattle.judge.specs.declared.Judged.the-variants.{Accepted, Refused}
-use Rattle.judge.specs.Faults.{tableCheck}
+use Rattle.judge.specs.Faults.{faultsCheck}
 pub mod Laws
 
 -- a table without a fault is told its figures
@@ -23,19 +21,15 @@ abbrev pub accepts : Checked → Figures → Judged
 accepts Passed f = Accepted f
 accepts (Faulty r) f = Refused r
 
--- 17 for the table; then the judge "reads its first H bytes"
-unfoldable pub judgedTable : Jobs → List ℕ → Judged
-judgedTable J table =
-    elim (ltb (length table) (J .horizon)) [
-      | true ↦ Refused (TooShort (J .horizon))
-      | false ↦ accepts (tableCheck (J .releases) (J .deadlines) (J .volumes) (take (J .horizon) table))
-          (tableFigures J (take (J .horizon) table))
-    ]
+-- the list checks, 17 for the table, then the faults of "its first H bytes"
+abbrev pub judgeCheck : Jobs → List ℕ → Checked
+judgeCheck J table =
+    andThen (checkOf J)
+    (andThen (lengthCheck (length table) (J .horizon))
+    (faultsCheck (J .releases) (J .deadlines) (J .volumes) (take (J .horizon) table)))
 
--- the list checks come first
 unfoldable pub judged : Jobs → List ℕ → Judged
-judged J table =
-    elim (listCheck (J .horizon) (J .releases) (J .deadlines) (J .volumes)) [ Faulty r ↦ Refused r | Passed ↦ judgedTable J table ]
+judged J table = accepts (judgeCheck J table) (tableFigures J (take (J .horizon) table))
 
 -- 01's numbers: 0 with energy, awake slots and runs; a refusal's own number with its place
 abbrev pub judgedNumber : Judged → ℕ
@@ -51,3 +45,8 @@ pub record Judges (J : Jobs) (table : List ℕ) (answer : Judged) : Type 0 where
   pub number : judgedNumber answer ≡ judgedNumber (judged J table)
   pub values : judgedValues answer ≡ judgedValues (judged J table)
   pub same : answer ≡ judged J table
+
+-- what is promised of a table of just H bytes, for every list with these fields and this wake cost
+abbrev pub JudgesSlots : ℕ → List ℕ → List ℕ → List ℕ → List ℕ → Judged → Type 0
+JudgesSlots q rs ds ps slots answer =
+    (J : Jobs) → J .wake ≡ q → J .start ≡ false → answer ≡ accepts (faultsCheck rs ds ps slots) (tableFigures J slots)

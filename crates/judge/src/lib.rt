@@ -4,8 +4,8 @@ ghost use Prim.Native.Nat.{_≤_};
 ghost use lib.ListN.{length, getD};
 ghost use lib.Dec.{leb};
 ghost use Rattle.sched.specs.Jobs.{jobsOf};
-ghost use Rattle.judge.specs.Faults.{Sized, slotFault, rareFrom, tableCheck};
-ghost use Rattle.judge.specs.Verdict.{judgedTable, Judges};
+ghost use Rattle.judge.specs.Faults.{Sized, slotFault, rareFrom, faultsCheck};
+ghost use Rattle.judge.specs.Verdict.{JudgesSlots, Judges};
 use sched::Checked;
 use sched::Figures;
 use sched::Refusal;
@@ -27,10 +27,10 @@ fn check_slot(
     requires { ⌜ Sized (now releases) (now deadlines) (now volumes) ⌝ }
     ensures { λ c. ⌜ c ≡ slotFault (length (now (releases .entry))) (getD (now (releases .entry)) byte 0) (getD (now (deadlines .entry)) byte 0) t byte (leb (getD (now (volumes .entry)) byte 0) (getD (now (named .entry)) byte 0)) ⌝ }
 {
-    if byte == 254 {
+    if byte == sched::IDLE {
         return Checked::Passed;
     }
-    if byte == 255 {
+    if byte == sched::ASLEEP {
         return Checked::Passed;
     }
     let job = byte as usize;
@@ -65,9 +65,9 @@ fn check_named(volumes: &[u16], named: &[u16; 64]) -> Checked
 }
 
 // One pass over the table, counting how often each job is named.
-fn check_table(releases: &[u16], deadlines: &[u16], volumes: &[u16], table: &[u8]) -> Checked
+fn check_faults(releases: &[u16], deadlines: &[u16], volumes: &[u16], table: &[u8]) -> Checked
     requires { ⌜ Sized (now releases) (now deadlines) (now volumes) ⌝ }
-    ensures { λ c. ⌜ c ≡ tableCheck (now (releases .entry)) (now (deadlines .entry)) (now (volumes .entry)) (now (table .entry)) ⌝ }
+    ensures { λ c. ⌜ c ≡ faultsCheck (now (releases .entry)) (now (deadlines .entry)) (now (volumes .entry)) (now (table .entry)) ⌝ }
 {
     let mut named = [0u16; 64];
     let mut t = 0;
@@ -91,24 +91,12 @@ fn check_table(releases: &[u16], deadlines: &[u16], volumes: &[u16], table: &[u8
     check_named(volumes, &named)
 }
 
-// What is left to do for a list that has passed its checks.
-fn judge_table(
-    h: u16,
-    q: u16,
-    releases: &[u16],
-    deadlines: &[u16],
-    volumes: &[u16],
-    table: &[u8],
-) -> Judged
-    requires { ⌜ Sized (now releases) (now deadlines) (now volumes) × (h ≤ 4096) ⌝ }
-    ensures { λ r. ⌜ r ≡ judgedTable (jobsOf h q (now (releases .entry)) (now (deadlines .entry)) (now (volumes .entry))) (now (table .entry)) ⌝ }
+// What a table of just the horizon's bytes costs, or its first fault.
+fn judge_slots(q: u16, releases: &[u16], deadlines: &[u16], volumes: &[u16], slots: &[u8]) -> Judged
+    requires { ⌜ Sized (now releases) (now deadlines) (now volumes) × (length (now slots) ≤ 4096) ⌝ }
+    ensures { λ r. ⌜ JudgesSlots q (now (releases .entry)) (now (deadlines .entry)) (now (volumes .entry)) (now (slots .entry)) r ⌝ }
 {
-    let end = h as usize;
-    if table.len() < end {
-        return Judged::Refused(Refusal::TooShort(end));
-    }
-    let slots = &table[..end];
-    match check_table(releases, deadlines, volumes, slots) {
+    match check_faults(releases, deadlines, volumes, slots) {
         Checked::Passed => Judged::Accepted(sched::cost_of(q, slots)),
         Checked::Refused(r) => Judged::Refused(r),
     }
@@ -125,8 +113,12 @@ pub fn judge(
 ) -> Judged
     ensures { λ r. ⌜ Judges (jobsOf h q (now (releases .entry)) (now (deadlines .entry)) (now (volumes .entry))) (now (table .entry)) r ⌝ }
 {
+    let end = h as usize;
     match sched::check_list(h, releases, deadlines, volumes) {
-        Checked::Passed => judge_table(h, q, releases, deadlines, volumes, table),
+        Checked::Passed => match sched::check_length(table.len(), end) {
+            Checked::Passed => judge_slots(q, releases, deadlines, volumes, &table[..end]),
+            Checked::Refused(r) => Judged::Refused(r),
+        },
         Checked::Refused(r) => Judged::Refused(r),
     }
 }

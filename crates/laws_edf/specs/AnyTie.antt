@@ -37,7 +37,7 @@ module _ (F : Spans) (S : ℕ → Bool) (h t : ℕ) (L : State) where
   idle-by b none f v = omega arith
   idle-by b (some k) f v = absurd (f (v .0) k (v .1 .able))
 
-  sooner-step : (o : Option ℕ) → Sooner F (S t) t L o → vol F S (suc h) t L ≡ gain o + vol F S h (suc t) (after L o)
+  pub sooner-step : (o : Option ℕ) → Sooner F (S t) t L o → vol F S (suc h) t L ≡ gain o + vol F S h (suc t) (after L o)
   unfolding vol
   sooner-step none f = omega (arith, idle-by (S t) (chosen F (S t) t L) f (view F (S t) t L))
   sooner-step (some k) c = omega (arith, any-earliest F S h t L k (c .0) (c .1) (c .2))

@@ -7,11 +7,8 @@ use mathlib.Core.Logic.{_≢_}
 use native.Mathlib.Omega.{arith}
 use native.Mathlib.Decide.{ℕ-discrete}
 use Rattle.laws_edf.specs.Run.{Spans, State, Eligible, chosen, lowered, after, gain, vol}
-use Rattle.laws_edf.specs.Pick.{First, Chosen, View, view}
+use Rattle.laws_edf.specs.Pick.{first-unique, Chosen, View, view}
 use Rattle.laws_edf.specs.Units.{OneMore, lowered-less, less-is-lowered, both-lowered, less-everywhere}
-
-pub first-unique : (d : ℕ → ℕ) (k j : ℕ) → First d k j → First d j k → k ≡ j
-first-unique d k j a b = omega (arith, a .lower (b .sooner), b .lower (a .sooner))
 
 pub eligible-with : (F : Spans) (t : ℕ) (L M : State) (j : ℕ) → Eligible F t L j → 0 < M j → Eligible F t M j
 eligible-with F t L M j e u = record { below = e .below; released = e .released; before = e .before; unit = u }

@@ -7,9 +7,9 @@ use mathlib.Core.Logic.{_≢_}
 use native.Mathlib.Omega.{arith}
 use native.Mathlib.Decide.{ℕ-discrete}
 use Rattle.laws_edf.specs.Run.{Spans, State, Eligible, chosen, lowered, after, gain, vol}
-use Rattle.laws_edf.specs.Pick.{View, view}
+use Rattle.laws_edf.specs.Pick.{first-unique, View, view}
 use Rattle.laws_edf.specs.Units.{OneMore, lowered-less, lowered-elsewhere, less-is-lowered, both-lowered, less-everywhere}
-use Rattle.laws_edf.specs.Apart.{first-unique, eligible-with, one-more-worth}
+use Rattle.laws_edf.specs.Apart.{eligible-with, one-more-worth}
 
 -- A has a unit of k and B one of j in its place, where j is released and k is due no later
 pub record Traded (F : Spans) (t k j : ℕ) (A B Z : State) : Type 0 where

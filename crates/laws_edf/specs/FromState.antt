@@ -10,17 +10,18 @@ use Rattle.sched.specs.Bounded.{sumBelow}
 use Rattle.sched.specs.Bounded.Laws.{sum-ext, sum-zero}
 use Rattle.sched.specs.Jobs.{Jobs, count}
 use Rattle.sched.specs.Slots.{times}
+use Rattle.sched.specs.Slots.Laws.{times-none, times-same, times-other}
 use Rattle.sched.specs.Workable.{units}
 use Rattle.laws_edf.specs.Run.{State, spans, vol, final, bytes, allUnits}
 use Rattle.laws_edf.specs.Placed.{AllPlaced}
 use Rattle.laws_edf.specs.Units.{sum-one-more}
 use Rattle.laws_edf.specs.Find.{part-positive}
 use Rattle.laws_edf.specs.Left.{served-and-left}
-use Rattle.laws_edf.specs.Placements.{times-empty, times-same, times-other, units-empty, units-job, units-none, placed-at-most, bytes-long, bytes-times, run-placed}
+use Rattle.laws_edf.specs.Placements.{units-empty, units-job, units-none, placed-at-most, bytes-long, bytes-times, run-placed}
 
 -- the units of a placement, job by job
 pub units-by-job : (J : Jobs) (placed : List ℕ) → units J placed ≡ sumBelow (count J) (λ j. times j placed)
-units-by-job J [] = units-empty J ∙ sym (sum-zero (count J) (λ j. times j []) (λ j _. times-empty j))
+units-by-job J [] = units-empty J ∙ sym (sum-zero (count J) (λ j. times j []) (λ j _. times-none j))
 units-by-job J (x ∷ rest) = go (decLt x (count J)) (units-by-job J rest)
   where
     go : Dec (x < count J) → units J rest ≡ sumBelow (count J) (λ j. times j rest) → units J (x ∷ rest) ≡ sumBelow (count J) (λ j. times j (x ∷ rest))

@@ -35,6 +35,14 @@ served-and-left F S (suc h) t L =
     let o = chosen F (S t) t L in
     omega (arith, served-and-left F S h (suc t) (after L o), after-units F (S t) t L o (view F (S t) t L))
 
+-- units past their deadline stay left: they are lost
+pub final-late : (F : Spans) (S : ℕ → Bool) (h t : ℕ) (L : State) (j : ℕ) → F .d j ≤ t → final F S h t L j ≡ L j
+unfolding final
+final-late F S zero t L j d = refl
+final-late F S (suc h) t L j d =
+    let o = chosen F (S t) t L in
+    final-late F S h (suc t) (after L o) j (omega arith) ∙ after-keeps F (S t) t L o (view F (S t) t L) j (λ e. omega (arith, e .before))
+
 module _ (F : Spans) (S : ℕ → Bool) (p : State) where
   pub final-left : (h t T : ℕ) → t + h ≡ T → final F S h t (left F S p t) ≡ left F S p T
   unfolding final left

@@ -16,11 +16,13 @@ pub mod OneSlotMore
 pub mod Helping
 pub mod Shortage
 pub mod Touching
+pub mod Rules
 pub mod Table
 pub mod FromState
 pub mod Whole
 pub mod Sets
 pub mod Woken
 pub mod Room
+pub mod Orders
 pub mod Overload
 pub mod Theorems

@@ -8,7 +8,7 @@ use native.Mathlib.Omega.{arith}
 use borrow.Author.Tests.{leb-true, ltb-true, ltb-false, le-leb, lt-ltb}
 use lib.Dec.{ltb}
 use Rattle.sched.specs.Bounded.Laws.{lt-suc, by-bool, true-not-false, and-true}
-use Rattle.sched.specs.Steps.{earliest, earlier}
+use Rattle.sched.specs.Table.{earliest, earlier}
 use Rattle.laws_edf.specs.Run.{Spans, State, servable, Eligible, pick, chosen}
 
 -- Earliest deadlines below n
@@ -17,6 +17,10 @@ use Rattle.laws_edf.specs.Run.{Spans, State, servable, Eligible, pick, c
 pub record First (d : ℕ → ℕ) (k j : ℕ) : Type 0 where
   pub sooner : d k ≤ d j
   pub lower : d j ≤ d k → k ≤ j
+
+-- only one job comes first
+pub first-unique : (d : ℕ → ℕ) (k j : ℕ) → First d k j → First d j k → k ≡ j
+first-unique d k j a b = omega (arith, a .lower (b .sooner), b .lower (a .sooner))
 
 pub record Earliest (d : ℕ → ℕ) (f : ℕ → Bool) (n k : ℕ) : Type 0 where
   pub below : k < n
@@ -105,3 +109,20 @@ view F true t L = go (pick F t L) (earliest-view (F .d) (servable F t L) (F .n))
         first = λ j e. v .first j (e .below) (servable-if F t L j e);
       },
     )
+
+-- So what a slot serves is known from what is eligible.
+
+module _ (F : Spans) (t : ℕ) (L : State) where
+  chosen-by : (k : ℕ) (o : Option ℕ) → Chosen F t L k → View F true t L o → o ≡ some k
+  chosen-by k none c v = absurd (v refl k (c .able))
+  chosen-by k (some m) c v = ap some (first-unique (F .d) m k (v .1 .first k (c .able)) (c .first m (v .1 .able)))
+
+  pub chosen-is : (k : ℕ) → Chosen F t L k → chosen F true t L ≡ some k
+  chosen-is k c = chosen-by k (chosen F true t L) c (view F true t L)
+
+  none-by : (o : Option ℕ) → ((j : ℕ) → Eligible F t L j → ⊥) → View F true t L o → o ≡ none
+  none-by none f v = refl
+  none-by (some m) f v = absurd (f m (v .1 .able))
+
+  pub chosen-none : ((j : ℕ) → Eligible F t L j → ⊥) → chosen F true t L ≡ none
+  chosen-none f = none-by (chosen F true t L) f (view F true t L)

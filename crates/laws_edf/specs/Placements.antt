@@ -4,15 +4,15 @@ use mathlib.Core.Path.{_≡_, refl, ap, sym}
 use mathlib.Core.Bool.{Bool, true, false, false≢true}
 use mathlib.Core.List.{List, [], _∷_}
 use mathlib.Core.Option.{Option, none, some}
-use mathlib.Core.Logic.{_≢_}
 use native.Mathlib.Omega.{arith}
 use native.Mathlib.Decide.{ℕ-discrete}
-use borrow.Author.Tests.{ltb-true, ltb-false, lt-ltb, le-ltb, eq-eqb, ne-eqb}
+use borrow.Author.Tests.{ltb-true, ltb-false, lt-ltb, le-ltb}
 use lib.Dec.{ltb}
 use lib.ListN.{length, getD}
 use Rattle.sched.specs.Bounded.Laws.{by-bool}
 use Rattle.sched.specs.Jobs.{Jobs, count}
 use Rattle.sched.specs.Slots.{times}
+use Rattle.sched.specs.Slots.Laws.{times-none, times-same, times-other}
 use Rattle.sched.specs.Feasible.{OwnSlot}
 use Rattle.sched.specs.Workable.{units}
 use Rattle.laws_edf.specs.Run.{Spans, State, Eligible, spans, chosen, lowered, after, gain, vol, final, slotByte, bytes}
@@ -20,18 +20,6 @@ use Rattle.laws_edf.specs.Placed.{PlacedFrom}
 use Rattle.laws_edf.specs.Pick.{View, view}
 use Rattle.laws_edf.specs.Units.{lowered-there, lowered-elsewhere}
 use Rattle.laws_edf.specs.Exchange.{Allowed, any-choice}
-
-pub times-empty : (j : ℕ) → times j [] ≡ 0
-unfolding times
-times-empty j = refl
-
-pub times-same : (j x : ℕ) (rest : List ℕ) → x ≡ j → times j (x ∷ rest) ≡ suc (times j rest)
-unfolding times
-times-same j x rest e = rw (eq-eqb x j e, times)
-
-pub times-other : (j x : ℕ) (rest : List ℕ) → x ≢ j → times j (x ∷ rest) ≡ times j rest
-unfolding times
-times-other j x rest f = rw (ne-eqb x j f, times)
 
 pub units-empty : (J : Jobs) → units J [] ≡ 0
 unfolding units
@@ -135,7 +123,7 @@ module _ (J : Jobs) (few : count J ≤ 254) (S : ℕ → Bool) where
   -- a job's number stands once for each unit served
   pub bytes-times : (h t : ℕ) (L : State) (j : ℕ) → j < count J → times j (bytes (spans J) S h t L) + final (spans J) S h t L j ≡ L j
   unfolding bytes final
-  bytes-times zero t L j l = omega (arith, times-empty j)
+  bytes-times zero t L j l = omega (arith, times-none j)
   bytes-times (suc h) t L j l =
       let o = chosen (spans J) (S t) t L in
       let rest = bytes (spans J) S h (suc t) (after L o) in

@@ -2,11 +2,11 @@
 -- has a feasible table. `FromState` has the law for the rest of a run, from any slot and any units left; `AnyTie` that the rule on equal
 -- deadlines does not matter to what is served.
 use Prim.Native.Nat.{ℕ, suc, _≤_, _<_}
-use mathlib.Core.Path.{_≡_, refl, sym, _∙_}
+use mathlib.Core.Path.{_≡_, sym, ap, _∙_}
 use mathlib.Core.Bool.{Bool, true, false}
 use mathlib.Core.List.{List}
 use mathlib.Core.Logic.{_⊎_, _↔_}
-use mathlib.Core.Option.{Option, some}
+use mathlib.Core.Option.{none, some}
 use native.Mathlib.Omega.{arith}
 use lib.ListN.{length, replicate, length-replicate, getD-replicate}
 use Rattle.sched.specs.Bounded.Laws.{by-bool, true-not-false}
@@ -18,17 +18,19 @@ use Rattle.sched.specs.Overload.{overloaded, shownOverload}
 use Rattle.sched.specs.declared.Interval.{Interval}
 use Rattle.sched.specs.Skeleton.{isSkeleton}
 use Rattle.sched.specs.Workable.{Placement, Greatest, units, workable}
-use Rattle.sched.specs.Steps.{helps, wakes, tableOf}
-use Rattle.laws_edf.specs.Run.{spans, left, allUnits, edfVolume}
+use Rattle.sched.specs.Extension.{helps, wakeable}
+use Rattle.sched.specs.Table.{Rule, choice, fillBy, tableOf}
+use Rattle.laws_edf.specs.Run.{spans, vol, left, allUnits, edfVolume}
 use Rattle.laws_edf.specs.Search.{reads-whole}
 use Rattle.laws_edf.specs.Lacking.{Lacking}
 use Rattle.laws_edf.specs.Touching.{touching-lacks, all-awake-serves}
-use Rattle.laws_edf.specs.Table.{fill-awake, fill-is-run, run-feasible}
-use Rattle.laws_edf.specs.Whole.{run-greatest, search-finds-run, served-and-lost, nothing-lost}
+use Rattle.laws_edf.specs.Rules.{EarliestRule}
+use Rattle.laws_edf.specs.Table.{choice-earliest, fill-awake, fill-feasible}
+use Rattle.laws_edf.specs.Whole.{run-greatest, search-finds-run, served-and-lost, all-served}
 use Rattle.laws_edf.specs.Sets.{touching, skeleton-windows}
 use Rattle.laws_edf.specs.Woken.{woken-worth, lacks-if-helps, helps-if-carried, helped-before}
 use Rattle.laws_edf.specs.Room.{no-overload-fits}
-use Rattle.laws_edf.specs.Overload.{Overfull}
+use Rattle.sched.specs.Overload.{Overfull}
 use Rattle.laws_edf.specs.Overload.Counting.{feasible-no-overload}
 use Rattle.laws_edf.specs.Overload.Laws.{shown-some}
 use Rattle.laws_edf.specs.Overload.Ends.{shown-deadline, shown-release}
@@ -82,8 +84,8 @@ unhelpful-stays J S x y p long l sleeps vain m =
 
 -- Step 3 finds its slot: "Where step 1 found no overload such a slot always exists".
 pub some-slot-wakes : (J : Jobs) (S : List Bool) → Passes J → ((a b : ℕ) → overloaded J a b ≡ false) →
-    isSkeleton J S ≡ true → length S ≡ J .horizon → workable J S < totalVolume J → (x : ℕ) × (x < J .horizon) × (wakes J S x ≡ true)
-unfolding wakes
+    isSkeleton J S ≡ true → length S ≡ J .horizon → workable J S < totalVolume J → (x : ℕ) × (x < J .horizon) × (wakeable J S x ≡ true)
+unfolding wakeable
 some-slot-wakes J S p free skeleton long short =
     let lost : 0 < allUnits (spans J) (left (spans J) (awake S) (volume J) (J .horizon)) = omega (arith, workable-is-edf J S long, served-and-lost J (p .same-volumes) S) in
     let fits = no-overload-fits J p free in
@@ -92,20 +94,26 @@ some-slot-wakes J S p free skeleton long short =
     let h = helps-if-carried J S long (k .slot) l (k .sleeps) e (k .below) m carried in
     (k .slot, l, rw (k .sleeps, touching S (k .slot) (k .touches), h))
 
--- Step 4
+-- Step 4, under any rule that takes a job of earliest deadline
 
--- Step 4 keeps the set: what is awake stays awake, and nothing else.
+-- It keeps the set: what is awake stays awake, and nothing else.
+pub any-rule-keeps-set : (J : Jobs) (rule : Rule) (S : List Bool) → Passes J → EarliestRule J rule → awakeOf (fillBy rule 0 (J .volumes) none S) ≡ S
+any-rule-keeps-set J rule S p ok = fill-awake J (omega (arith, p .few)) rule ok 0 (J .volumes) none S
+
+-- Where the workable volume is the sum of volumes, its table is feasible.
+pub any-rule-feasible : (J : Jobs) (rule : Rule) (S : List Bool) → Passes J → EarliestRule J rule → length S ≡ J .horizon →
+    workable J S ≡ totalVolume J → Feasible J (fillBy rule 0 (J .volumes) none S)
+any-rule-feasible J rule S p ok long all =
+    fill-feasible J (omega (arith, p .few)) rule ok S (awake S) long (reads-whole S)
+    (ap (λ (h : ℕ). vol (spans J) (awake S) h 0 (volume J)) long ∙ all-served J (p .same-volumes) S (sym (workable-is-edf J S long) ∙ all))
+
 pub table-keeps-set : (J : Jobs) (S : List Bool) → Passes J → awakeOf (tableOf J S) ≡ S
 unfolding tableOf
-table-keeps-set J S p = fill-awake J 0 (J .volumes) S (omega (arith, p .few))
+table-keeps-set J S p = any-rule-keeps-set J (choice J) S p (choice-earliest J)
 
--- Where the workable volume is the sum of volumes, the table of step 4 is feasible.
 pub table-feasible : (J : Jobs) (S : List Bool) → Passes J → length S ≡ J .horizon → workable J S ≡ totalVolume J → Feasible J (tableOf J S)
-unfolding tableOf left
-table-feasible J S p long all =
-    let done = nothing-lost J (p .same-volumes) S (sym (workable-is-edf J S long) ∙ all) in
-    rw (fill-is-run J (awake S) (volume J) (J .horizon) done S 0 (J .volumes) (reads-whole S) (omega arith) refl, long)
-    (run-feasible J (awake S) (omega (arith, p .few)) done)
+unfolding tableOf
+table-feasible J S p long all = any-rule-feasible J (choice J) S p (choice-earliest J) long all
 
 -- No overload
 
@@ -136,6 +144,6 @@ shown-ends J i p e = let s = shown-some J i e in (shown-release J p i s, shown-d
 
 -- So the least end of an overloaded interval is enough: with the jobs in any order by falling release, their volumes added up tell its start.
 pub search-finds-shown :
-    (J : Jobs) (order : List ℕ) (a b : ℕ) → Passes J → InOrder (release J) (count J) order → Overfull J a b →
-    ((x y : ℕ) → y < b → Overfull J x y → ⊥) → some (record { a = startOr 0 (startFor J b order 0); b = b }) ≡ shownOverload J
-search-finds-shown J order a b p o over least = least-end-shown J p order o a b over least
+    (J : Jobs) (js : List ℕ) (a b : ℕ) → Passes J → InOrder (release J) (count J) js → Overfull J a b →
+    ((x y : ℕ) → y < b → Overfull J x y → ⊥) → some (record { a = startOr 0 (startFor J b js 0); b = b }) ≡ shownOverload J
+search-finds-shown J js a b p o over least = least-end-shown J p js o a b over least

@@ -67,3 +67,8 @@ module _ (J : Jobs) (same : length (J .volumes) ≡ count J) where
   pub nothing-lost : (S : List Bool) → edfVolume J S ≡ totalVolume J → (j : ℕ) → j < count J → left (spans J) (awake S) (volume J) (J .horizon) j ≡ 0
   nothing-lost S e j l =
       omega (arith, served-and-lost S, part-positive (count J) (left (spans J) (awake S) (volume J) (J .horizon)) j l)
+
+  -- so the run serves all units that there are
+  pub all-served : (S : List Bool) → edfVolume J S ≡ totalVolume J → vol (spans J) (awake S) (J .horizon) 0 (volume J) ≡ allUnits (spans J) (volume J)
+  unfolding edfVolume
+  all-served S e = e ∙ sym volumes-sum

@@ -8,7 +8,7 @@ use Rattle.sched.specs.Jobs.{Jobs, totalVolume}
 use Rattle.sched.specs.Slots.{awake, touches, wakeSlot}
 use Rattle.sched.specs.Workable.{workable}
 use Rattle.sched.specs.Skeleton.{isSkeleton}
-use Rattle.sched.specs.Steps.{wakes}
+use Rattle.sched.specs.Extension.{wakeable}
 pub mod Laws
 pub mod Cursor
 
@@ -27,4 +27,4 @@ Turns J S (t ∷ ts) = Turn J S t × Turns J (wakeSlot S t) ts
 -- while the workable volume of a skeleton is short of the sum of volumes, some slot may be woken
 abbrev pub AlwaysOne : Jobs → Type 0
 AlwaysOne J =
-    (S : List Bool) → length S ≡ J .horizon → isSkeleton J S ≡ true → workable J S < totalVolume J → (x : ℕ) × (x < J .horizon) × (wakes J S x ≡ true)
+    (S : List Bool) → length S ≡ J .horizon → isSkeleton J S ≡ true → workable J S < totalVolume J → (x : ℕ) × (x < J .horizon) × (wakeable J S x ≡ true)

@@ -13,12 +13,25 @@ use Rattle.sched.specs.Feasible.{Feasible}
 use Rattle.sched.specs.Overload.{overloaded}
 use Rattle.sched.specs.Skeleton.{leastSkeleton}
 use Rattle.sched.specs.Workable.{workable}
-use Rattle.sched.specs.Steps.{woken, extended, tableOf}
+use Rattle.sched.specs.Extension.{woken, extended}
+use Rattle.sched.specs.Table.{tableOf}
+use Rattle.sched.specs.Sleep.Laws.{slept-feasible, slept-energy}
+use Rattle.sched.specs.Steps.{tableFrom, planTable}
 use Rattle.laws_edf.specs.Theorems.{workable-at-most-total, some-slot-wakes, table-keeps-set, table-feasible}
 use Rattle.laws_skeleton.specs.Theorems.{least-is-skeleton, least-length, least-cheapest}
 use Rattle.laws_skeleton.specs.Rival.{rival-skeleton, rival-length}
 use Rattle.laws_extension.specs.Waking.{AlwaysOne}
 use Rattle.laws_extension.specs.Waking.Laws.{all-length, woken-energy, woken-full, woken-count}
+
+-- steps 4 and 5, from any set of H slots in which all volume can be worked: the table is feasible and costs no more than the set
+module _ (J : Jobs) (S : List Bool) (p : Passes J) where
+  pub from-feasible : length S ≡ J .horizon → workable J S ≡ totalVolume J → Feasible J (tableFrom J S)
+  unfolding tableFrom
+  from-feasible long full = slept-feasible J (tableOf J S) (table-feasible J S p long full)
+
+  pub from-energy : energy J (awakeOf (tableFrom J S)) ≤ energy J S
+  unfolding tableFrom
+  from-energy = omega (arith, slept-energy J (tableOf J S), ap (energy J) (table-keeps-set J S p))
 
 module _ (J : Jobs) (p : Passes J) (none-over : (a b : ℕ) → overloaded J a b ≡ false) where
   one : AlwaysOne J
@@ -40,14 +53,15 @@ module _ (J : Jobs) (p : Passes J) (none-over : (a b : ℕ) → overloaded J a b
       woken-count J one (leastSkeleton J) (least-length J p) (least-is-skeleton J p)
       (workable-at-most-total J (leastSkeleton J) p (least-length J p))
 
-  pub plan-feasible : Feasible J (tableOf J (extended J))
-  plan-feasible = table-feasible J (extended J) p extended-length extended-full
+  pub plan-feasible : Feasible J (planTable J)
+  unfolding planTable
+  plan-feasible = from-feasible J (extended J) p extended-length extended-full
 
   -- no more than the energy of any feasible table plus the sum of volumes
-  pub plan-energy : (rival : List ℕ) → Feasible J rival → energy J (awakeOf (tableOf J (extended J))) ≤ energy J (awakeOf rival) + totalVolume J
-  unfolding extended woken
+  pub plan-energy : (rival : List ℕ) → Feasible J rival → energy J (awakeOf (planTable J)) ≤ energy J (awakeOf rival) + totalVolume J
+  unfolding planTable extended woken
   plan-energy rival f =
-      let kept = ap (energy J) (table-keeps-set J (extended J) p) in
+      let table = from-energy J (extended J) p in
       let grown = woken-energy J (J .horizon) (leastSkeleton J) (least-length J p) in
       let least = least-cheapest J (awakeOf rival) p (rival-length J rival f) (rival-skeleton J rival p f) in
-      omega (arith, kept, grown, least, added-is-shortfall)
+      omega (arith, table, grown, least, added-is-shortfall)

@@ -1,8 +1,8 @@
 -- Demand 3 of the plan that 01 defines, what `added` counts, and step 3 to its end.
 use Prim.Native.Nat.{ℕ, _+_, _-_, _≤_}
 use mathlib.Core.Path.{_≡_, refl, sym, ap, subst, _∙_}
-use mathlib.Core.Bool.{Bool, false}
-use mathlib.Core.List.{List, _++_}
+use mathlib.Core.Bool.{false}
+use mathlib.Core.List.{List}
 use mathlib.Core.Option.{Option, none, some}
 use native.Mathlib.Omega.{arith}
 use lib.ListN.{length, take, drop}
@@ -16,17 +16,18 @@ use Rattle.sched.specs.Energy.{energy}
 use Rattle.sched.specs.Overload.{overloaded, shownOverload}
 use Rattle.sched.specs.Skeleton.{leastSkeleton}
 use Rattle.sched.specs.Workable.{workable}
-use Rattle.sched.specs.Steps.{woken, extended, tableOf}
-use Rattle.sched.specs.Outcomes.{Plan, figuresOf, planned, stepOne, plan}
-use Rattle.sched.specs.Outcomes.Laws.{plan-starts, step-one-none, step-one-some}
+use Rattle.sched.specs.Extension.{woken, extended}
+use Rattle.sched.specs.Steps.{planTable}
+use Rattle.sched.specs.Outcomes.{Plan, figuresOf, planBy, planned, plan}
+use Rattle.sched.specs.Outcomes.Laws.{early-overload, early-none, plan-ended, plan-goes-on}
 use Rattle.sched.specs.declared.PlanFigures.{PlanFigures}
 use Rattle.sched.specs.declared.Interval.{Interval}
 use Rattle.sched.specs.declared.Outcome.{Outcome}
 use Rattle.sched.specs.declared.Outcome.the-variants.{Planned, Overloaded}
-use Rattle.laws_edf.specs.Overload.{Overfull}
+use Rattle.sched.specs.Overload.{Overfull}
 use Rattle.laws_edf.specs.Overload.Laws.{shown-none, shown-some, overfull-overloaded}
 use Rattle.laws_edf.specs.Overload.Counting.{feasible-no-overload}
-use Rattle.laws_rivals.specs.Rivals.{AgainstRivals}
+use Rattle.laws_rivals.specs.Rivals.{Sound, AgainstRivals, Reports, asOutcome, Delivers, CountsWoken}
 use Rattle.laws_edf.specs.Theorems.{unhelpful-stays}
 use Rattle.laws_skeleton.specs.Theorems.{least-length}
 use Rattle.laws_extension.specs.Waking.Cursor.{wokenFrom, triedFrom}
@@ -34,66 +35,106 @@ use Rattle.laws_extension.specs.Waking.Cursor.Laws.{woken-from}
 use Rattle.laws_extension.specs.Waking.Cursor.Once.{tried-once}
 use Rattle.laws_rivals.specs.Steps.{extended-full, added-is-shortfall, plan-feasible, plan-energy}
 
-planned-not-overloaded : (f : PlanFigures) (i : Interval) → _≡_ {A = Outcome} (Planned f) (Overloaded i) → ⊥
-planned-not-overloaded f i e = let z : _≡_ {A = ℕ} 0 1 = cc in omega arith
+-- Any planner
 
 -- an interval is shown: no rival has a schedule
-pub overload-against : (J : Jobs) (i : Interval) (table : List ℕ) → shownOverload J ≡ some i → AgainstRivals J (Overloaded i) table
-overload-against J i table e =
+pub overload-sound : (J : Jobs) (i : Interval) (table : List ℕ) → shownOverload J ≡ some i → Sound J (asOutcome (Overloaded i)) table
+overload-sound J i table e =
     let over = (shown-some J i e) .over in
     record {
       no-schedule = λ s rival f. true-not-false _ (overfull-overloaded J (i .a) (i .b) over) (feasible-no-overload J rival f (i .a) (i .b));
       says-so = λ s. tt;
-      interval = λ k q. let same : i ≡ k = cc in subst (λ (x : Interval). Overfull J (x .a) (x .b)) same over;
+      interval = λ from to q. subst (λ (b : ℕ). Overfull J from b) (q .1) (subst (λ (a : ℕ). Overfull J a (i .b)) (q .0) over);
       otherwise = λ s. absurd (s tt);
     }
 
--- no interval is shown: the table of steps 2 to 5 is handed over
-pub plan-against : (J : Jobs) (added : ℕ) → Passes J → ((a b : ℕ) → overloaded J a b ≡ false) → AgainstRivals J (Planned (figuresOf J (tableOf J (extended J)) added)) (tableOf J (extended J))
-unfolding figuresOf
-plan-against J added p n =
-    let table = tableOf J (extended J) in
-    let f = plan-feasible J p n in
+-- a feasible table is handed over with its energy: there is no reason to say overloaded
+pub planned-sound : (J : Jobs) (f : PlanFigures) (table : List ℕ) → Feasible J table → f .energy ≡ energy J (awakeOf table) → Sound J (asOutcome (Planned f)) table
+planned-sound J f table feasible e =
     record {
       no-schedule = λ s. absurd s;
-      says-so = λ s. absurd (s table f);
-      interval = λ i q. absurd (planned-not-overloaded (figuresOf J table added) i q);
-      otherwise = λ s. record { figures = figuresOf J table added; planned = refl; feasible = f; reported = refl; limit = plan-energy J p n };
+      says-so = λ s. absurd (s table feasible);
+      interval = λ from to q. absurd q;
+      otherwise = λ s. record { feasible = feasible; reported = e };
     }
 
-first-bytes : (J : Jobs) (lent : List ℕ) → Passes J → ((a b : ℕ) → overloaded J a b ≡ false) → take (J .horizon) (tableOf J (extended J) ++ drop (J .horizon) lent) ≡ tableOf J (extended J)
-first-bytes J lent p n = take-at (tableOf J (extended J)) (drop (J .horizon) lent) (J .horizon) ((plan-feasible J p n) .long)
+-- Whatever its steps are: a planner whose steps deliver is sound.
+pub any-planner-sound : (steps : Jobs → List ℕ → Plan) (J : Jobs) (lent : List ℕ) → Passes J → J .horizon ≤ length lent →
+    (((a b : ℕ) → overloaded J a b ≡ false) → Delivers J (steps J lent)) →
+    Sound J (asOutcome ((planBy steps J lent) .answer)) (take (J .horizon) ((planBy steps J lent) .table))
+any-planner-sound steps J lent p m delivers = by-shown (shownOverload J) refl
+  where
+    SoundPlan : Plan → Type 0
+    SoundPlan x = Sound J (asOutcome (x .answer)) (take (J .horizon) (x .table))
 
-step-one-against : (J : Jobs) (lent : List ℕ) → Passes J → (o : Option Interval) → shownOverload J ≡ o → AgainstRivals J ((stepOne J lent) .answer) (take (J .horizon) ((stepOne J lent) .table))
-unfolding planned
-step-one-against J lent p none e =
-    let n = shown-none J e in
-    rw (step-one-none J lent e, first-bytes J lent p n) (plan-against J (length (woken J (leastSkeleton J))) p n)
-step-one-against J lent p (some i) e = rw (step-one-some J lent i e) (overload-against J i (take (J .horizon) lent) e)
+    by-shown : (o : Option Interval) → shownOverload J ≡ o → SoundPlan (planBy steps J lent)
+    by-shown (some i) e =
+        subst SoundPlan (sym (plan-ended steps J lent (Overloaded i) (early-overload J (length lent) p m i e)))
+        (overload-sound J i (take (J .horizon) lent) e)
+    by-shown none e =
+        let d = delivers (shown-none J e) in
+        subst SoundPlan (sym (plan-goes-on steps J lent (early-none J (length lent) p m e)))
+        (subst (λ (o : Outcome). Sound J (asOutcome o) (take (J .horizon) ((steps J lent) .table))) (sym (d .planned))
+        (planned-sound J (d .figures) (take (J .horizon) ((steps J lent) .table)) (d .feasible) (d .reported)))
 
--- Ours and any rival.
-pub demand-three : (J : Jobs) (lent : List ℕ) → Passes J → J .horizon ≤ length lent → AgainstRivals J ((plan J lent) .answer) (take (J .horizon) ((plan J lent) .table))
-demand-three J lent p m = rw (plan-starts J lent p m) (step-one-against J lent p (shownOverload J) refl)
+-- The plan of 01
+
+module _ (J : Jobs) (lent : List ℕ) (p : Passes J) (n : (a b : ℕ) → overloaded J a b ≡ false) where
+  first-bytes : take (J .horizon) ((planned J lent) .table) ≡ planTable J
+  unfolding planned
+  first-bytes = take-at (planTable J) (drop (J .horizon) lent) (J .horizon) ((plan-feasible J p n) .long)
+
+  pub plan-delivers : Delivers J (planned J lent)
+  unfolding planned figuresOf
+  plan-delivers = record {
+    figures = figuresOf J (planTable J) (length (woken J (leastSkeleton J)));
+    planned = refl;
+    feasible = rw first-bytes (plan-feasible J p n);
+    reported = rw first-bytes;
+  }
+
+module _ (J : Jobs) (lent : List ℕ) (p : Passes J) (m : J .horizon ≤ length lent) where
+  -- a reported energy is that of the plan's table, where no interval is overloaded
+  reported-is : (reported : ℕ) → Reports ((plan J lent) .answer) reported →
+      ((a b : ℕ) → overloaded J a b ≡ false) × (reported ≡ energy J (awakeOf (planTable J)))
+  unfolding plan planned figuresOf
+  reported-is reported r = by-shown (shownOverload J) refl
+    where
+      by-shown : (o : Option Interval) → shownOverload J ≡ o → ((a b : ℕ) → overloaded J a b ≡ false) × (reported ≡ energy J (awakeOf (planTable J)))
+      by-shown (some i) e = absurd (rw (plan-ended planned J lent (Overloaded i) (early-overload J (length lent) p m i e)) at r)
+      by-shown none e =
+          (shown-none J e, sym (rw (plan-goes-on planned J lent (early-none J (length lent) p m e)) at r))
+
+  -- Ours and any rival.
+  pub demand-three : AgainstRivals J (asOutcome ((plan J lent) .answer)) (take (J .horizon) ((plan J lent) .table))
+  unfolding plan
+  demand-three = record {
+    sound = any-planner-sound planned J lent p m (λ n. plan-delivers J lent p n);
+    limit = λ reported r rival f. let s = reported-is reported r in omega (arith, s .1, plan-energy J p (s .0) rival f);
+  }
+
+planned-not-overloaded : (f : PlanFigures) (i : Interval) → _≡_ {A = Outcome} (Planned f) (Overloaded i) → ⊥
+planned-not-overloaded f i e = let z : _≡_ {A = ℕ} 0 1 = cc in omega arith
 
 planned-figures : (J : Jobs) (lent : List ℕ) (f : PlanFigures) → (planned J lent) .answer ≡ Planned f → f .added ≡ length (woken J (leastSkeleton J))
 unfolding planned figuresOf
-planned-figures J lent f e = let same : figuresOf J (tableOf J (extended J)) (length (woken J (leastSkeleton J))) ≡ f = cc in sym (ap (λ (x : PlanFigures). x .added) same)
+planned-figures J lent f e = let same : figuresOf J (planTable J) (length (woken J (leastSkeleton J))) ≡ f = cc in sym (ap (λ (x : PlanFigures). x .added) same)
 
--- `added` is the number of slots that step 3 wakes, and what the skeleton's workable volume is short of
-pub added-counts : (J : Jobs) (lent : List ℕ) (f : PlanFigures) → Passes J → J .horizon ≤ length lent → (plan J lent) .answer ≡ Planned f → (f .added ≡ length (woken J (leastSkeleton J))) × (f .added ≡ totalVolume J - workable J (leastSkeleton J))
+pub added-counts : (J : Jobs) (lent : List ℕ) (f : PlanFigures) → Passes J → J .horizon ≤ length lent → (plan J lent) .answer ≡ Planned f → CountsWoken J (f .added)
+unfolding plan
 added-counts J lent f p m e = by-shown (shownOverload J) refl
   where
-    by-shown : (o : Option Interval) → shownOverload J ≡ o → (f .added ≡ length (woken J (leastSkeleton J))) × (f .added ≡ totalVolume J - workable J (leastSkeleton J))
+    by-shown : (o : Option Interval) → shownOverload J ≡ o → CountsWoken J (f .added)
     by-shown (some i) q =
-        absurd (planned-not-overloaded f i (sym e ∙ ap (λ (x : Plan). x .answer) (plan-starts J lent p m ∙ step-one-some J lent i q)))
+        absurd (planned-not-overloaded f i (sym e ∙ ap (λ (x : Plan). x .answer) (plan-ended planned J lent (Overloaded i) (early-overload J (length lent) p m i q))))
     by-shown none q =
-        let same = planned-figures J lent f (sym (ap (λ (x : Plan). x .answer) (plan-starts J lent p m ∙ step-one-none J lent q)) ∙ e) in
+        let same = planned-figures J lent f (sym (ap (λ (x : Plan). x .answer) (plan-goes-on planned J lent (early-none J (length lent) p m q))) ∙ e) in
         (same, same ∙ added-is-shortfall J p (shown-none J q))
 
 -- Step 3, from the least skeleton of a list without an overloaded interval
 
--- it ends with all volume workable, and its table is feasible
-pub extension-ends : (J : Jobs) → Passes J → ((a b : ℕ) → overloaded J a b ≡ false) → (workable J (extended J) ≡ totalVolume J) × Feasible J (tableOf J (extended J))
+-- it ends with all volume workable, and the plan's table is feasible
+pub extension-ends : (J : Jobs) → Passes J → ((a b : ℕ) → overloaded J a b ≡ false) → (workable J (extended J) ≡ totalVolume J) × Feasible J (planTable J)
 extension-ends J p n = (extended-full J p n, plan-feasible J p n)
 
 -- it wakes as many slots as the skeleton's workable volume is short of
@@ -112,5 +153,5 @@ pub extension-tries : (J : Jobs) (i : ℕ) → Passes J → times i (triedFrom (
 extension-tries J i p = tried-once J (J .horizon) (leastSkeleton J) 0 i (least-length J p)
 
 -- The energy limit: the table of steps 2 to 5 costs at most any feasible table and the sum of volumes.
-pub energy-limit : (J : Jobs) (rival : List ℕ) → Passes J → ((a b : ℕ) → overloaded J a b ≡ false) → Feasible J rival → energy J (awakeOf (tableOf J (extended J))) ≤ energy J (awakeOf rival) + totalVolume J
+pub energy-limit : (J : Jobs) (rival : List ℕ) → Passes J → ((a b : ℕ) → overloaded J a b ≡ false) → Feasible J rival → energy J (awakeOf (planTable J)) ≤ energy J (awakeOf rival) + totalVolume J
 energy-limit J rival p n f = plan-energy J p n rival f

@@ -15,8 +15,8 @@ use Rattle.sched.specs.Jobs.{Jobs}
 use Rattle.sched.specs.Slots.{allSets}
 use Rattle.sched.specs.Energy.{energy}
 use Rattle.sched.specs.Skeleton.{isSkeleton, skeletons, leastOf, leastSkeleton}
-use Rattle.laws_skeleton.specs.Precedence.{Precedes, Least}
-use Rattle.laws_skeleton.specs.Precedence.Laws.{precedes-both}
+use Rattle.sched.specs.Skeleton.{Precedes, Least}
+use Rattle.laws_skeleton.specs.Precedence.{precedes-both}
 
 -- each set of the list precedes those behind it
 abbrev Ordered : List (List Bool) → Type 0

@@ -1,27 +1,32 @@
--- 01, step 2: of two sets, the one that "at the first slot where two differ, is asleep" comes first; and what step 2 asks of a set.
-use Prim.Native.Nat.{_≤_}
-use mathlib.Core.Path.{_≡_}
+-- Two sets that precede each other are the same, and what precedence says of the first slot where two differ.
+use Prim.Native.Nat.{ℕ, zero, suc, _<_}
+use mathlib.Core.Path.{_≡_, refl, ap}
 use mathlib.Core.Bool.{Bool, true, false}
 use mathlib.Core.List.{List, [], _∷_}
-use lib.ListN.{length}
-use Rattle.sched.specs.Jobs.{Jobs}
-use Rattle.sched.specs.Energy.{energy}
-use Rattle.sched.specs.Skeleton.{isSkeleton}
-pub mod Laws
+use mathlib.Core.Logic.{_≢_}
+use native.Mathlib.Omega.{arith}
+use Rattle.sched.specs.Slots.{awake}
+use Rattle.sched.specs.Bounded.Laws.{true-not-false}
+use Rattle.sched.specs.Skeleton.{Precedes}
 
--- the sets have as many slots and are the same, or differ, and the first sleeps where they first differ
-abbrev pub Precedes : List Bool → List Bool → Type 0
-Precedes [] [] = Unit {0}
-Precedes [] (y ∷ R) = ⊥
-Precedes (x ∷ S) [] = ⊥
-Precedes (false ∷ S) (false ∷ R) = Precedes S R
-Precedes (false ∷ S) (true ∷ R) = Unit {0}
-Precedes (true ∷ S) (false ∷ R) = ⊥
-Precedes (true ∷ S) (true ∷ R) = Precedes S R
+pub precedes-both : (S R : List Bool) → Precedes S R → Precedes R S → S ≡ R
+precedes-both [] [] p r = refl
+precedes-both [] (y ∷ R) p r = absurd p
+precedes-both (x ∷ S) [] p r = absurd p
+precedes-both (false ∷ S) (false ∷ R) p r = ap (λ (l : List Bool). false ∷ l) (precedes-both S R p r)
+precedes-both (false ∷ S) (true ∷ R) p r = absurd r
+precedes-both (true ∷ S) (false ∷ R) p r = absurd p
+precedes-both (true ∷ S) (true ∷ R) p r = ap (λ (l : List Bool). true ∷ l) (precedes-both S R p r)
 
--- "the skeleton of least energy", and among equals the first
-pub record Least (J : Jobs) (B : List Bool) : Type 0 where
-  pub long : length B ≡ J .horizon
-  pub skeleton : isSkeleton J B ≡ true
-  pub cheapest : (S : List Bool) → length S ≡ J .horizon → isSkeleton J S ≡ true → energy J B ≤ energy J S
-  pub first : (S : List Bool) → length S ≡ J .horizon → isSkeleton J S ≡ true → energy J S ≡ energy J B → Precedes B S
+-- where S precedes R and they differ first at slot t, R is awake there
+pub precedes-differ : (S R : List Bool) (t : ℕ) → Precedes S R → ((u : ℕ) → u < t → awake S u ≡ awake R u) → awake S t ≢ awake R t → awake R t ≡ true
+precedes-differ [] [] t p same d = absurd (d refl)
+precedes-differ [] (y ∷ R) t p same d = absurd p
+precedes-differ (x ∷ S) [] t p same d = absurd p
+precedes-differ (false ∷ S) (false ∷ R) zero p same d = absurd (d refl)
+precedes-differ (false ∷ S) (false ∷ R) (suc t) p same d = precedes-differ S R t p (λ u l. same (suc u) (omega arith)) d
+precedes-differ (false ∷ S) (true ∷ R) zero p same d = refl
+precedes-differ (false ∷ S) (true ∷ R) (suc t) p same d = true-not-false false (same 0 (omega arith)) refl
+precedes-differ (true ∷ S) (false ∷ R) t p same d = absurd p
+precedes-differ (true ∷ S) (true ∷ R) zero p same d = absurd (d refl)
+precedes-differ (true ∷ S) (true ∷ R) (suc t) p same d = precedes-differ S R t p (λ u l. same (suc u) (omega arith)) d

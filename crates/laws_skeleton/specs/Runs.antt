@@ -5,12 +5,14 @@
 --   2. `runsOf`, from the first job forwards: a job whose window starts before the end of the last run has been met, any other begins a run
 --      in the last slot of its window.
 -- Both ask `runEnd` where a run is best ended, and that asks `sleepCost` what follows. Each looks only at the jobs behind.
-use Prim.Native.Nat.{ℕ, suc, _+_, _-_}
+-- A processor that is awake before slot 0 may stay awake without a wake: `runsFromStart` has that run in front.
+use Prim.Native.Nat.{ℕ, zero, suc, _+_, _-_}
 use mathlib.Core.Bool.{Bool, true, false, _&&_, _||_}
 use mathlib.Core.List.{List, [], _∷_, _++_}
 use lib.ListN.{replicate}
 use lib.Dec.{leb, ltb, eqb}
 use Rattle.sched.specs.Jobs.{Jobs}
+use Rattle.sched.specs.Runs.{Run}
 use Rattle.laws_skeleton.specs.Windows.{windowStart, windowEnd}
 pub mod Clauses
 pub mod Until
@@ -60,11 +62,6 @@ values J (j ∷ js) =
     let vs = values J js in
     valueAt J (windowEnd J j) js vs ∷ vs
 
--- a run: its first slot, and how many it has
-pub record Run : Type 0 where
-  pub first : ℕ
-  pub slots : ℕ
-
 -- the run that begins in slot t
 abbrev pub runAt : Jobs → ℕ → List ℕ → List ℕ → Run
 runAt J t js vs = record { first = t; slots = endAfter J js vs t - t }
@@ -78,6 +75,21 @@ runsOf J s (j ∷ js) (v ∷ vs) =
       | true ↦ runAt J (windowEnd J j) js vs ∷ runsOf J (endAfter J js vs (windowEnd J j)) js vs
       | false ↦ runsOf J s js vs
     ]
+
+-- The slot before which the run from before slot 0 is best ended: 0 where it is best ended at once, and where there is none. The Bool says
+-- whether the processor is awake before slot 0.
+unfoldable pub firstEnd : Jobs → Bool → List ℕ → List ℕ → ℕ
+firstEnd J false js vs = 0
+firstEnd J true js vs = runEnd J js vs 0 0 js
+
+-- the slots from 0 up to slot e as a run before the others; no run where there is no such slot
+unfoldable pub runUpTo : ℕ → List Run → List Run
+runUpTo zero rs = rs
+runUpTo (suc e) rs = record { first = 0; slots = suc e } ∷ rs
+
+-- the runs from slot 0 on
+abbrev pub runsFromStart : Jobs → Bool → List ℕ → List ℕ → List Run
+runsFromStart J b js vs = runUpTo (firstEnd J b js vs) (runsOf J (firstEnd J b js vs) js vs)
 
 -- the slots from t up to the horizon h, awake in these runs
 unfoldable pub spread : ℕ → ℕ → List Run → List Bool

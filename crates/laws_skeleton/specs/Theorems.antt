@@ -11,21 +11,22 @@ use lib.ListN.{length}
 use Rattle.sched.specs.Jobs.{Jobs, count}
 use Rattle.sched.specs.Checks.{Passes}
 use Rattle.sched.specs.Slots.{awake}
-use Rattle.sched.specs.Energy.{energy, start}
+use Rattle.sched.specs.Energy.{energy}
 use Rattle.sched.specs.Skeleton.{isSkeleton, leastSkeleton}
 use Rattle.laws_skeleton.specs.Recursion.{least, built}
 use Rattle.laws_skeleton.specs.Recursion.Exchange.{later-sleep, later-wake, allowed-costs}
 use Rattle.laws_skeleton.specs.Recursion.Built.{built-length, built-allowed, built-costs, built-precedes}
-use Rattle.laws_skeleton.specs.Precedence.{Precedes, Least}
-use Rattle.laws_skeleton.specs.Precedence.Laws.{precedes-differ}
+use Rattle.sched.specs.Skeleton.{Precedes, Least}
+use Rattle.laws_skeleton.specs.Precedence.{precedes-differ}
 use Rattle.laws_skeleton.specs.Enumeration.{least-is}
 use Rattle.laws_skeleton.specs.Windows.{due, skeletonEnergy, builtSkeleton}
 use Rattle.laws_skeleton.specs.Windows.Laws.{due-rises, skeleton-allowed, allowed-skeleton}
 use Rattle.laws_skeleton.specs.Order.{Order}
 use Rattle.laws_skeleton.specs.Order.Laws.{order-rest}
-use Rattle.laws_skeleton.specs.Runs.{sleepCost, values, runsOf, spread, valueAt}
+use Rattle.laws_skeleton.specs.Runs.{sleepCost, throughCost, valueAt, values, runsOf, firstEnd, runsFromStart, spread}
+use Rattle.laws_skeleton.specs.Runs.Clauses.{runs-asleep}
 use Rattle.laws_skeleton.specs.Runs.Values.{values-right, awake-right}
-use Rattle.laws_skeleton.specs.Runs.Laws.{runs-built, runs-few}
+use Rattle.laws_skeleton.specs.Runs.Laws.{start-built, start-cost, start-runs-few}
 
 -- The recursion
 
@@ -44,23 +45,23 @@ awake-falls J t l =
 
 -- no skeleton costs less than the recursion's value
 pub skeleton-costs : (J : Jobs) (S : List Bool) → length S ≡ J .horizon → isSkeleton J S ≡ true → skeletonEnergy J ≤ energy J S
-skeleton-costs J S n e = allowed-costs (due J) (J .wake) (due-rises J) (J .horizon) (start J) 0 0 S n (skeleton-allowed J S e)
+skeleton-costs J S n e = allowed-costs (due J) (J .wake) (due-rises J) (J .horizon) (J .start) 0 0 S n (skeleton-allowed J S e)
 
 -- the built set has H slots, is a skeleton, and costs just that
 pub built-long : (J : Jobs) → length (builtSkeleton J) ≡ J .horizon
-built-long J = built-length (due J) (J .wake) (J .horizon) (start J) 0 0
+built-long J = built-length (due J) (J .wake) (J .horizon) (J .start) 0 0
 
 pub built-is-skeleton : (J : Jobs) → Passes J → isSkeleton J (builtSkeleton J) ≡ true
-built-is-skeleton J p = allowed-skeleton J (builtSkeleton J) p (built-long J) (built-allowed (due J) (J .wake) (J .horizon) (start J) 0 0)
+built-is-skeleton J p = allowed-skeleton J (builtSkeleton J) p (built-long J) (built-allowed (due J) (J .wake) (J .horizon) (J .start) 0 0)
 
 pub built-energy : (J : Jobs) → energy J (builtSkeleton J) ≡ skeletonEnergy J
-built-energy J = built-costs (due J) (J .wake) (J .horizon) (start J) 0 0
+built-energy J = built-costs (due J) (J .wake) (J .horizon) (J .start) 0 0
 
 -- a skeleton of that energy that differs from it is awake at the first slot where the two differ
 built-comes-first : (J : Jobs) (S : List Bool) → length S ≡ J .horizon → isSkeleton J S ≡ true → energy J S ≡ skeletonEnergy J
     → Precedes (builtSkeleton J) S
 built-comes-first J S n e same =
-    built-precedes (due J) (J .wake) (due-rises J) (J .horizon) (start J) 0 0 S n (skeleton-allowed J S e) same
+    built-precedes (due J) (J .wake) (due-rises J) (J .horizon) (J .start) 0 0 S n (skeleton-allowed J S e) same
 
 pub built-sleeps-first : (J : Jobs) (S : List Bool) (t : ℕ) → length S ≡ J .horizon → isSkeleton J S ≡ true
     → energy J S ≡ skeletonEnergy J → ((u : ℕ) → u < t → awake (builtSkeleton J) u ≡ awake S u)
@@ -105,20 +106,30 @@ pub values-give-awake : (J : Jobs) (order : List ℕ) (t : ℕ) → Passes J →
     → valueAt J t order (values J order) ≡ suc (least (due J) (J .wake) (J .horizon - suc t) true (suc t) (suc t))
 values-give-awake J order t p o l = awake-right J p order t (order-rest J order o) l (λ k m n. o .all k m)
 
-pub values-give-energy : (J : Jobs) (order : List ℕ) → Passes J → Order J order → sleepCost J 0 order (values J order) ≡ skeletonEnergy J
-values-give-energy J order p o = values-give-sleep J order 0 p o (omega arith) ∙ ap (λ (k : ℕ). least (due J) (J .wake) k false 0 0) (sub-zero (J .horizon))
+-- and the cost of the set that the recursion builds, whatever the state b before slot 0
+pub values-give-energy : (J : Jobs) (b : Bool) (order : List ℕ) → Passes J → Order J order
+    → throughCost J order (values J order) (firstEnd J b order (values J order)) ≡ least (due J) (J .wake) (J .horizon) b 0 0
+values-give-energy J b order p o =
+    start-cost J p b order (order-rest J order o) (λ k m n. o .all k m) ∙ ap (λ (k : ℕ). least (due J) (J .wake) k b 0 0) (sub-zero (J .horizon))
 
--- the runs are those of the least skeleton
-pub runs-are-built : (J : Jobs) (order : List ℕ) → Passes J → Order J order
-    → spread (J .horizon) 0 (runsOf J 0 order (values J order)) ≡ builtSkeleton J
-runs-are-built J order p o =
-    runs-built J p order (order-rest J order o) 0 (omega arith) (λ k m n. o .all k m)
-    ∙ ap (λ (k : ℕ). built (due J) (J .wake) k false 0 0) (sub-zero (J .horizon))
+-- the runs are those of that set
+pub runs-are-built : (J : Jobs) (b : Bool) (order : List ℕ) → Passes J → Order J order
+    → spread (J .horizon) 0 (runsFromStart J b order (values J order)) ≡ built (due J) (J .wake) (J .horizon) b 0 0
+runs-are-built J b order p o =
+    start-built J p b order (order-rest J order o) (λ k m n. o .all k m) ∙ ap (λ (k : ℕ). built (due J) (J .wake) k b 0 0) (sub-zero (J .horizon))
 
-pub runs-are-least : (J : Jobs) (order : List ℕ) → Passes J → Order J order
+-- so they are those of the least skeleton
+pub start-runs-are-least : (J : Jobs) (order : List ℕ) → Passes J → Order J order
+    → spread (J .horizon) 0 (runsFromStart J (J .start) order (values J order)) ≡ leastSkeleton J
+start-runs-are-least J order p o = runs-are-built J (J .start) order p o ∙ sym (built-is-least J p)
+
+-- for a start asleep there is no run in front
+pub runs-are-least : (J : Jobs) (order : List ℕ) → Passes J → Order J order → J .start ≡ false
     → spread (J .horizon) 0 (runsOf J 0 order (values J order)) ≡ leastSkeleton J
-runs-are-least J order p o = runs-are-built J order p o ∙ sym (built-is-least J p)
+runs-are-least J order p o asleep =
+    sym (ap (λ (b : Bool). spread (J .horizon) 0 (runsFromStart J b order (values J order))) asleep ∙ ap (spread (J .horizon) 0) (runs-asleep J order (values J order)))
+    ∙ start-runs-are-least J order p o
 
--- there are no more runs than jobs
-pub runs-at-most : (J : Jobs) (order : List ℕ) → length order ≡ count J → length (runsOf J 0 order (values J order)) ≤ count J
-runs-at-most J order n = omega (arith, runs-few J 0 order (values J order))
+-- there are no more runs than jobs, but for the one in front
+pub runs-at-most : (J : Jobs) (b : Bool) (order : List ℕ) → length order ≡ count J → length (runsFromStart J b order (values J order)) ≤ suc (count J)
+runs-at-most J b order n = omega (arith, start-runs-few J b order (values J order))

@@ -5,7 +5,6 @@ use mathlib.Core.List.{List}
 use lib.Dec.{leb, eqb}
 use Rattle.sched.specs.Bounded.{anyBelow}
 use Rattle.sched.specs.Jobs.{Jobs, count, release, deadline}
-use Rattle.sched.specs.Energy.{start}
 use Rattle.laws_skeleton.specs.Recursion.{least, built}
 pub mod Laws
 
@@ -22,8 +21,8 @@ due J c t = anyBelow (count J) (λ j. leb c (windowStart J j) && eqb (windowEnd 
 
 -- what the least skeleton costs
 abbrev pub skeletonEnergy : Jobs → ℕ
-skeletonEnergy J = least (due J) (J .wake) (J .horizon) (start J) 0 0
+skeletonEnergy J = least (due J) (J .wake) (J .horizon) (J .start) 0 0
 
 -- the least skeleton
 abbrev pub builtSkeleton : Jobs → List Bool
-builtSkeleton J = built (due J) (J .wake) (J .horizon) (start J) 0 0
+builtSkeleton J = built (due J) (J .wake) (J .horizon) (J .start) 0 0

@@ -1,21 +1,16 @@
 -- Stretches, slot by slot; and that every horizon fits the program's table.
-use Prim.Native.Nat.{ℕ, zero, suc, _+_, _≤_, _<_}
+use Prim.Native.Nat.{ℕ, _+_, _≤_, _<_}
 use mathlib.Core.Path.{_≡_, refl, sym, ap, _∙_}
 use mathlib.Core.Bool.{Bool, true, false, not, Bool·beq}
-use mathlib.Core.List.{List, [], _∷_}
+use mathlib.Core.List.{List}
 use native.Mathlib.Omega.{arith}
 use borrow.Author.Tests.{ltb-true, ltb-false}
 use lib.ListN.{length, getD}
 use lib.Dec.{ltb, eqb}
 use Rattle.sched.specs.Bounded.Laws.{by-bool, true-not-false}
 use Rattle.sched.specs.Slots.{awake, awakeOf, asleep}
-use Rattle.plan.specs.Runs.{EndOf}
-
--- the state of a slot, told by its byte
-slot-awake : (table : List ℕ) (t : ℕ) → t < length table → awake (awakeOf table) t ≡ not (eqb (getD table t 0) asleep)
-slot-awake [] t l = absurd (omega arith)
-slot-awake (x ∷ table) zero l = refl
-slot-awake (x ∷ table) (suc t) l = slot-awake table t (omega arith)
+use Rattle.sched.specs.Slots.Laws.{awake-of}
+use Rattle.sched.specs.Runs.{StretchEnd}
 
 differs : (x b : Bool) → not (Bool·beq x b) ≡ true → x ≡ not b
 differs true true e = let z : _≡_ {A = ℕ} 0 1 = cc in absurd (omega arith)
@@ -38,19 +33,19 @@ pub record Reached (table : List ℕ) (from : ℕ) (b : Bool) (t : ℕ) : Type 0
 pub reached-none : (table : List ℕ) (from : ℕ) (b : Bool) → from ≤ length table → Reached table from b from
 reached-none table from b l = record { starts = omega arith; within = l; inside = λ i s m. absurd (omega arith) }
 
-pub reached-end : (table : List ℕ) (from : ℕ) (b : Bool) (t : ℕ) → Reached table from b t → length table ≤ t → EndOf table from b t
+pub reached-end : (table : List ℕ) (from : ℕ) (b : Bool) (t : ℕ) → Reached table from b t → length table ≤ t → StretchEnd table from b t
 reached-end table from b t g l =
     record { starts = g .starts; within = g .within; inside = g .inside; turns = λ m. absurd (omega arith) }
 
 -- the next slot, found to be x: it is in the other state, or in the same
 module _ (table : List ℕ) (from : ℕ) (b : Bool) (t : ℕ) (x : Bool) (g : Reached table from b t) (l : t < length table) (e : x ≡ not (eqb (getD table t 0) asleep)) where
-  pub reached-turn : not (Bool·beq x b) ≡ true → EndOf table from b t
+  pub reached-turn : not (Bool·beq x b) ≡ true → StretchEnd table from b t
   reached-turn d =
       record {
         starts = g .starts;
         within = g .within;
         inside = g .inside;
-        turns = λ m. slot-awake table t l ∙ sym e ∙ differs x b d;
+        turns = λ m. awake-of table t l ∙ sym e ∙ differs x b d;
       }
 
   pub reached-on : not (Bool·beq x b) ≡ false → Reached table from b (t + 1)
@@ -63,7 +58,7 @@ module _ (table : List ℕ) (from : ℕ) (b : Bool) (t : ℕ) (x : Bool) (g : Re
             (λ y. g .inside i s (ltb-true i t y))
             (λ n.
             let same : i ≡ t = omega (arith, ltb-false i t n) in
-            ap (awake (awakeOf table)) same ∙ slot-awake table t l ∙ sym e ∙ agrees x b a);
+            ap (awake (awakeOf table)) same ∙ awake-of table t l ∙ sym e ∙ agrees x b a);
       }
 
 -- a run begins at slot t, or the table is at its end
@@ -72,11 +67,11 @@ pub record RunFrom (table : List ℕ) (t : ℕ) : Type 0 where
   pub begins : t < length table → awake (awakeOf table) t ≡ true
 
 -- it does behind a stretch of sleep
-pub run-from : (table : List ℕ) (from t : ℕ) → EndOf table from false t → RunFrom table t
+pub run-from : (table : List ℕ) (from t : ℕ) → StretchEnd table from false t → RunFrom table t
 run-from table from t e = record { within = e .within; begins = e .turns }
 
 -- and it has a slot
-pub run-moves : (table : List ℕ) (t r : ℕ) → RunFrom table t → t < length table → EndOf table t true r → t < r
+pub run-moves : (table : List ℕ) (t r : ℕ) → RunFrom table t → t < length table → StretchEnd table t true r → t < r
 run-moves table t r g l e =
     by-bool (ltb t r) (ltb-true t r)
     (λ n.

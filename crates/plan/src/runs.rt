@@ -5,18 +5,18 @@ ghost use Prim.Native.Nat.{_≤_};
 ghost use lib.ListN.{length};
 ghost use lib.Dec.{eqb};
 ghost use Rattle.sched.specs.Slots.{asleep};
-ghost use Rattle.plan.specs.Runs.{EndOf};
+ghost use Rattle.sched.specs.Runs.{StretchEnd};
 
 fn is_awake(byte: u8) -> bool
     ensures { λ r. ⌜ r ≡ not (eqb byte asleep) ⌝ }
 {
-    byte != 255
+    byte != sched::ASLEEP
 }
 
 // Where the awake slots from a slot on end, or the sleeping ones.
 pub fn end(table: &[u8], from: usize, awake: bool) -> usize
     requires { ⌜ from ≤ length (now table) ⌝ }
-    ensures { λ r. ⌜ EndOf (now (table .entry)) from awake r ⌝ }
+    ensures { λ r. ⌜ StretchEnd (now (table .entry)) from awake r ⌝ }
 {
     let mut t = from;
     while t < table.len() {

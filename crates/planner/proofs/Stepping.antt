@@ -1,92 +1,90 @@
 -- From one step to the next.
 use Prim.Native.Nat.{ℕ, _≤_}
-use mathlib.Core.Path.{_≡_, sym, ap, subst, _∙_}
-use mathlib.Core.Bool.{Bool}
-use mathlib.Core.List.{List, _++_}
-use mathlib.Core.Option.{Option}
+use mathlib.Core.Path.{_≡_, refl, sym, ap, _∙_}
+use mathlib.Core.Bool.{false}
+use mathlib.Core.List.{List}
 use native.Mathlib.Omega.{arith}
-use lib.ListN.{length, take, drop}
-use Rattle.sched.specs.Jobs.{Jobs, count}
+use lib.ListN.{length}
+use Rattle.sched.specs.Jobs.{Jobs, totalVolume}
 use Rattle.sched.specs.Checks.{Passes}
 use Rattle.sched.specs.Slots.{awakeOf}
+use Rattle.sched.specs.Slots.Laws.{awake-of-length}
 use Rattle.sched.specs.Energy.{tableFigures}
 use Rattle.sched.specs.Skeleton.{leastSkeleton}
 use Rattle.sched.specs.Workable.{workable}
-use Rattle.sched.specs.Steps.{extended, tableOf}
+use Rattle.sched.specs.Steps.{tableFrom, planTable}
 use Rattle.sched.specs.Outcomes.{figuresOf}
 use Rattle.sched.specs.declared.Figures.{Figures}
 use Rattle.sched.specs.declared.PlanFigures.{PlanFigures}
 use Rattle.laws_edf.specs.Overload.Laws.{shown-none}
-use Rattle.sched.specs.Slots.Laws.{awake-of-length}
-use Rattle.laws_rivals.specs.Steps.{extended-length, extended-full, plan-feasible}
-use Rattle.orders.specs.Fronts.{blank, front-length, filled-front}
-use Rattle.orders.specs.Order.{Places, Orders}
-use Rattle.orders.specs.Order.Both.{ranks-long, ranked-jobs, by-windows}
-use Rattle.step2_skeleton.specs.Places.{Served}
+use Rattle.laws_rivals.specs.Steps.{extended-length, extended-full}
+use Rattle.orders.specs.Lists.{ListsOf}
+use Rattle.orders.specs.Views.{by-windows}
+use Rattle.step2_skeleton.specs.Places.{Markable}
 use Rattle.step3_extend.specs.Turns.{Extended}
 use Rattle.step3_extend.specs.Beginning.{Extendable}
 use Rattle.step4_table.specs.Filling.{Fillable}
+use Rattle.finish.specs.Finishing.{Finished}
 use Rattle.planner.specs.Promises.{Free, Stepped}
 
--- both orders can be written to the fronts of two arrays
-pub places : (J : Jobs) → Passes J → Places (J .releases) (J .deadlines) (take (count J) blank) (take (count J) blank)
-places J p =
-    let long = sym (front-length (count J) blank (p .few)) in
-    record { few = p .few; same = p .same-deadlines; ranks = long; arrivals = long }
+-- a list has its own lists
+own-lists : (J : Jobs) → Passes J → ListsOf J (J .releases) (J .deadlines) (J .volumes)
+own-lists J p = record { passes = p; releases-are = refl; deadlines-are = refl; volumes-are = refl }
 
--- and they stand there after the call
-pub fronts-ordered :
-    (J : Jobs) → Passes J → (order soon : List ℕ) → length order ≡ length (take (count J) blank) → length soon ≡ length (take (count J) blank)
-    → Orders (J .releases) (J .deadlines) order soon
-    → Orders (J .releases) (J .deadlines) (take (count J) (order ++ drop (count J) blank)) (take (count J) (soon ++ drop (count J) blank))
-fronts-ordered J p order soon a b o =
-    let n = count J in
-    subst (λ (l : List ℕ). Orders (J .releases) (J .deadlines) (take n (order ++ drop n blank)) l) (sym (filled-front n blank soon (p .few) b))
-    (subst (λ (l : List ℕ). Orders (J .releases) (J .deadlines) l soon) (sym (filled-front n blank order (p .few) a)) o)
-
-module _ (J : Jobs) (order soon table : List ℕ) (f : Free J order soon table) where
-  pub served : Served J order table
-  served =
-      let many = ranks-long J order soon (f .passes) (f .orders) in
+module _ (J : Jobs) (ranks arrivals table : List ℕ) (f : Free J ranks arrivals table) where
+  pub markable : J .start ≡ false → Markable J (J .horizon) (J .wake) (J .releases) (J .deadlines) ranks table
+  markable asleep =
+      let sorted = f .orders .by-deadline in
       record {
+        horizon-is = refl;
+        wake-is = refl;
+        releases-are = refl;
+        deadlines-are = refl;
+        asleep = asleep;
         passes = f .passes;
-        serves = by-windows J order soon (f .passes) (f .orders);
-        many = many;
-        known = λ k l. ranked-jobs J order soon (f .passes) (f .orders) .known k (omega (arith, many));
+        serves = by-windows J ranks arrivals (f .orders);
+        many = sorted .long;
+        known = λ k l. sorted .known k (omega (arith, sorted .long));
         long = f .long;
       }
 
-  pub extendable : (marked : List ℕ) → awakeOf marked ≡ leastSkeleton J → Extendable J order marked
+  pub extendable : (marked : List ℕ) → awakeOf marked ≡ leastSkeleton J → Extendable J (J .releases) (J .deadlines) (J .volumes) ranks marked
   extendable marked s =
-      record { passes = f .passes; free = shown-none J (f .none-shown); ranks = ranked-jobs J order soon (f .passes) (f .orders); set-is = s }
-
-  pub fillable : (woke : List ℕ) (added : ℕ) → Extended J woke added → Fillable J order woke
-  fillable woke added x =
       record {
+        releases-are = refl;
+        deadlines-are = refl;
+        volumes-are = refl;
         passes = f .passes;
-        ranks = ranked-jobs J order soon (f .passes) (f .orders);
-        long = sym (awake-of-length woke) ∙ ap length (x .set-is) ∙ extended-length J (f .passes) (shown-none J (f .none-shown));
-        full = ap (workable J) (x .set-is) ∙ extended-full J (f .passes) (shown-none J (f .none-shown));
+        free = shown-none J (f .none-shown);
+        ranked = record { sorted = f .orders .by-deadline };
+        many = f .orders .by-deadline .long;
+        set-is = s;
       }
 
-  -- a table of H bytes is short enough to be counted
-  pub countable : (woke : List ℕ) (added : ℕ) → Extended J woke added → length (tableOf J (awakeOf woke)) ≤ 4096
-  countable woke added x =
-      omega (
-        arith,
-        ap (λ (S : List Bool). length (tableOf J S)) (x .set-is),
-        plan-feasible J (f .passes) (shown-none J (f .none-shown)) .long,
-        f .passes .high,
-      )
+  module _ {woke : List ℕ} {added : ℕ} (x : Extended J woke added) where
+    woke-long : length woke ≡ J .horizon
+    woke-long = sym (awake-of-length woke) ∙ ap length (x .set-is) ∙ extended-length J (f .passes) (shown-none J (f .none-shown))
 
-pub stepped : (J : Jobs) (table′ table″ : List ℕ) (added : ℕ) (cost : Figures) → Extended J table′ added → table″ ≡ tableOf J (awakeOf table′) → cost ≡ tableFigures J table″ → Stepped J (record { energy = cost .energy; awake = cost .awake; runs = cost .runs; added = added }) table″
-unfolding figuresOf
-stepped J table′ table″ added cost x e c =
-    let t : table″ ≡ tableOf J (extended J) = e ∙ ap (tableOf J) (x .set-is) in
-    record {
-      bytes = t;
-      told = ap (λ (f : Figures). counted f added) (c ∙ ap (tableFigures J) t) ∙ ap (counted (tableFigures J (tableOf J (extended J)))) (x .added-is);
-    }
-  where
-    counted : Figures → ℕ → PlanFigures
-    counted f n = record { energy = f .energy; awake = f .awake; runs = f .runs; added = n }
+    woke-full : workable J (awakeOf woke) ≡ totalVolume J
+    woke-full = ap (workable J) (x .set-is) ∙ extended-full J (f .passes) (shown-none J (f .none-shown))
+
+    pub finishable : Fillable (J .releases) (J .deadlines) (J .volumes) ranks arrivals woke × (length woke ≤ 4096)
+    finishable =
+        let p = f .passes in
+        let few : length woke ≤ 4096 = omega (arith, woke-long, p .high) in
+        (record { few = p .few; same = p .same-volumes; orders = f .orders; short = omega arith }, few)
+
+    pub stepped : {cost : Figures} {table′ : List ℕ} → Finished (J .wake) (J .releases) (J .deadlines) (J .volumes) woke cost table′ → J .start ≡ false →
+        Stepped J (record { energy = cost .energy; awake = cost .awake; runs = cost .runs; added = added }) table′
+    unfolding figuresOf planTable
+    stepped {cost} {table′} d asleep =
+        let bytes : table′ ≡ planTable J = d .bytes J (own-lists J (f .passes)) refl woke-long woke-full ∙ ap (tableFrom J) (x .set-is) in
+        record {
+          bytes = bytes;
+          figures-are =
+              ap (λ (g : Figures). counted g added) (d .figures-are J refl asleep ∙ ap (tableFigures J) bytes)
+              ∙ ap (counted (tableFigures J (planTable J))) (x .added-is);
+        }
+      where
+        counted : Figures → ℕ → PlanFigures
+        counted g n = record { energy = g .energy; awake = g .awake; runs = g .runs; added = n }

@@ -1,2 +1,2 @@
--- What the parts of the planner compute, where that is not a definition of `sched` itself.
+-- What `plan` promises, and what its steps hand to it.
 pub mod Promises

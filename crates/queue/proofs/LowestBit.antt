@@ -39,23 +39,23 @@ module _ (rank gone units : ℕ) where
   pub joins : gone ≤ rank → (units ≡ 0 → ⊥) → rank < 64 → 1 * 2 ^ rank % 2 ^ 64 ≡ bit (leb gone rank && ltb 0 units) * 2 ^ rank
   joins l n s = rw (le-leb gone rank l, pos-ltb units n) (shifted rank s ∙ sym (one-mul (2 ^ rank)))
 
-module _ (bits : ℕ) (order left : List ℕ) where
-  pub serves-none : bits ≡ 0 → Serves bits order left idle 0 left
+module _ (bits : ℕ) (ranks left : List ℕ) where
+  pub serves-none : bits ≡ 0 → Serves bits ranks left idle 0 left
   unfolding servedByte servedLeft servedBits
   serves-none e = let t = eq-eqb bits 0 e in record { byte-is = rw (t, servedByte); bits-are = rw (t, servedBits); left-is = rw (t, servedLeft) }
 
-  pub serves-last : (bits ≡ 0 → ⊥) → CanServe bits order left → getD (set left (lowest bits order) (getD left (lowest bits order) 0 - 1)) (lowest bits order) 0 ≡ 0 →
-      Serves bits order left (lowest bits order) (bits - 1 * 2 ^ trailingZeros 64 bits % 2 ^ 64) (set left (lowest bits order) (getD left (lowest bits order) 0 - 1))
+  pub serves-last : (bits ≡ 0 → ⊥) → CanServe bits ranks left → getD (set left (lowest bits ranks) (getD left (lowest bits ranks) 0 - 1)) (lowest bits ranks) 0 ≡ 0 →
+      Serves bits ranks left (lowest bits ranks) (bits - 1 * 2 ^ trailingZeros 64 bits % 2 ^ 64) (set left (lowest bits ranks) (getD left (lowest bits ranks) 0 - 1))
   unfolding servedByte servedLeft servedBits
   serves-last n c z =
       let t = ne-eqb bits 0 n in
-      let u = eq-eqb (getD left (lowest bits order) 0 - 1) 0 (sym (getD-set-same left (lowest bits order) _ 0 (c .job)) ∙ z) in
+      let u = eq-eqb (getD left (lowest bits ranks) 0 - 1) 0 (sym (getD-set-same left (lowest bits ranks) _ 0 (c .job)) ∙ z) in
       record { byte-is = rw (t, servedByte); bits-are = rw (t, u, shifted (trailingZeros 64 bits) (c .rank), servedBits); left-is = rw (t, servedLeft) }
 
-  pub serves-more : (bits ≡ 0 → ⊥) → CanServe bits order left → (getD (set left (lowest bits order) (getD left (lowest bits order) 0 - 1)) (lowest bits order) 0 ≡ 0 → ⊥) →
-      Serves bits order left (lowest bits order) bits (set left (lowest bits order) (getD left (lowest bits order) 0 - 1))
+  pub serves-more : (bits ≡ 0 → ⊥) → CanServe bits ranks left → (getD (set left (lowest bits ranks) (getD left (lowest bits ranks) 0 - 1)) (lowest bits ranks) 0 ≡ 0 → ⊥) →
+      Serves bits ranks left (lowest bits ranks) bits (set left (lowest bits ranks) (getD left (lowest bits ranks) 0 - 1))
   unfolding servedByte servedLeft servedBits
   serves-more n c z =
       let t = ne-eqb bits 0 n in
-      let u = ne-eqb (getD left (lowest bits order) 0 - 1) 0 (λ e. z (getD-set-same left (lowest bits order) _ 0 (c .job) ∙ e)) in
+      let u = ne-eqb (getD left (lowest bits ranks) 0 - 1) 0 (λ e. z (getD-set-same left (lowest bits ranks) _ 0 (c .job) ∙ e)) in
       record { byte-is = rw (t, servedByte); bits-are = rw (t, u, servedBits); left-is = rw (t, servedLeft) }

@@ -12,25 +12,18 @@ use Rattle.sched.specs.Slots.{asleep, awake, awakeOf}
 use Rattle.sched.specs.Slots.Laws.{awake-of}
 use Rattle.laws_edf.specs.Run.{Spans, State, chosen, after, slotByte, bytes, final}
 use Rattle.laws_edf.specs.Search.{stateOf}
+use Rattle.laws_edf.specs.Orders.{Sorted}
 use Rattle.queue.specs.Mask.{mask}
-use Rattle.queue.specs.Ranks.{spansOf, servesRank, Ranked, CanServe}
+use Rattle.queue.specs.Ranks.{spansOf, servesRank, CanServe}
 use Rattle.queue.specs.Ranks.Lowest.{can-serve, byte-served, left-served, bits-served}
-use Rattle.queue.specs.Arrivals.{Arriving, Standing}
+use Rattle.queue.specs.Arrivals.{ReadyAt}
 use Rattle.queue.specs.Runs.{Lookable, Looked, Serves, SlotReady, SlotDone, wakeful, Runnable, RunDone, RunTo}
-use Rattle.queue.proofs.Waiting.{bits-serve, stands-served, stands-later}
+use Rattle.queue.proofs.Waiting.{bits-serve, ready-served, ready-later}
 
 module _ (F : Spans) where
-  pub run-starts : (left table : List ℕ) → RunTo F left table left table 0
-  run-starts left table =
-      let z : length table - 0 ≡ length table = omega arith in
-      record {
-        within = omega arith;
-        same-long = refl;
-        left-long = refl;
-        rest = λ i l. refl;
-        all = rw z;
-        ends = rw z;
-      }
+  pub run-starts : (first : ℕ) (left table : List ℕ) → RunTo F first left table left table first
+  run-starts first left table =
+      record { same-long = refl; left-long = refl; rest = λ i l. refl; all = refl; ends = refl }
 
   bytes-turn : (S : ℕ → Bool) (h t : ℕ) (L M : State) (b : Bool) → S t ≡ b → M ≡ after L (chosen F b t L) → bytes F S (suc h) t L ≡ slotByte b (chosen F b t L) ∷ bytes F S h (suc t) M
   unfolding bytes
@@ -40,19 +33,23 @@ module _ (F : Spans) where
   unfolding final
   final-turn S h t L M b e q = rw (e, q)
 
-  pub run-ends : (left₀ table₀ left table : List ℕ) (t : ℕ) → length table ≤ t → RunTo F left₀ table₀ left table t → RunDone F left₀ table₀ left table
+  pub run-ends :
+      (first : ℕ) (left₀ table₀ left table : List ℕ) (t : ℕ) → length table ≤ t → RunTo F first left₀ table₀ left table t →
+      RunDone F first left₀ table₀ left table
   unfolding bytes final
-  run-ends left₀ table₀ left table t l r =
+  run-ends first left₀ table₀ left table t l r =
       let z : length table₀ - t ≡ 0 = omega (arith, r .same-long) in
       record {
-        table-is = sym (r .all ∙ ap (λ (x : ℕ). take t table ++ bytes F (awake (awakeOf table₀)) x t (stateOf left)) z ∙ append-nil (take t table) ∙ take-all t table l);
+        table-is =
+            sym (r .all ∙ ap (λ (x : ℕ). take t table ++ bytes F (awake (awakeOf table₀)) x t (stateOf left)) z
+            ∙ append-nil (take t table) ∙ take-all t table l);
         left-is = sym (r .ends ∙ ap (λ (x : ℕ). final F (awake (awakeOf table₀)) x t (stateOf left)) z);
         left-long = r .left-long;
       }
 
-module _ (releases deadlines order soon : List ℕ) where
+module _ (releases deadlines ranks arrivals : List ℕ) where
   -- a sleeping slot serves nothing
-  pub slot-sleeps : (left table : List ℕ) (t bits next gone u : ℕ) → getD table t 0 ≡ asleep → Standing releases deadlines order soon left t bits next gone u → SlotDone releases deadlines order soon left table t left table bits next gone u
+  pub slot-sleeps : (left table : List ℕ) (t bits next gone u : ℕ) → getD table t 0 ≡ asleep → ReadyAt releases deadlines ranks arrivals left t bits next gone u → SlotDone releases deadlines ranks arrivals left table t left table bits next gone u
   unfolding chosen
   slot-sleeps left table t bits next gone u e s =
       let off : wakeful (getD table t 0) ≡ false = rw (eq-eqb (getD table t 0) asleep e) in
@@ -60,54 +57,65 @@ module _ (releases deadlines order soon : List ℕ) where
         table-is = rw off (sym (ap (set table t) (sym e) ∙ set-getD table t 0));
         left-is = rw off;
         left-long = refl;
-        standing = stands-later releases deadlines order soon left t bits next gone u s;
+        ready = ready-later releases deadlines ranks arrivals left t bits next gone u s;
       }
 
-  module _ (left : List ℕ) (t bits next gone u bits₀ next₀ gone₀ u₀ : ℕ) (g : Lookable releases deadlines order soon left t bits₀ next₀ gone₀ u₀) (k : Looked releases deadlines order soon left t bits next gone u) where
-    again : Lookable releases deadlines order soon left t bits next gone u
-    again = record { short = g .short; same = g .same; ranks = g .ranks; arriving = g .arriving; standing = k .standing }
+module _
+    {releases deadlines ranks arrivals left : List ℕ} {t bits next gone u bits₀ next₀ gone₀ u₀ : ℕ}
+    (g : Lookable releases deadlines ranks arrivals left t bits₀ next₀ gone₀ u₀)
+    (k : Looked releases deadlines ranks arrivals left t bits next gone u) where
+  abbrev F : Spans
+  F = spansOf releases deadlines
 
-    are : bits ≡ mask (servesRank (spansOf releases deadlines) order t (stateOf left)) (length releases)
-    are = bits-serve again (k .before)
+  sorted : Sorted (F .n) (F .d) ranks
+  sorted = g .queued .orders .by-deadline
 
-    pub slot-can : 0 < bits → CanServe bits order left
-    slot-can = can-serve (spansOf releases deadlines) order left (g .ranks) t bits are
+  again : Lookable releases deadlines ranks arrivals left t bits next gone u
+  again = record { short = g .short; queued = g .queued; ready = k .ready }
 
-    -- an awake slot serves the lowest of its ranks
-    pub slot-serves : (table : List ℕ) (byte bits′ : ℕ) (left′ : List ℕ) → (getD table t 0 ≡ asleep → ⊥) → Serves bits order left byte bits′ left′ → length left′ ≡ length left → SlotDone releases deadlines order soon left table t left′ (set table t byte) bits′ next gone u
-    slot-serves table byte bits′ left′ n s long =
-        let F = spansOf releases deadlines in
-        let on : wakeful (getD table t 0) ≡ true = rw (ne-eqb (getD table t 0) asleep n) in
-        record {
-          table-is = rw on (ap (set table t) (s .byte-is ∙ byte-served F order left (g .ranks) t bits are));
-          left-is = rw on (ap stateOf (s .left-is) ∙ left-served F order left (g .ranks) t bits are);
-          left-long = long;
-          standing = stands-later releases deadlines order soon left′ t bits′ next gone u
-              (stands-served again (k .before) left′ bits′ (s .bits-are ∙ rw (s .left-is) (bits-served F order left (g .ranks) t bits are)));
-        }
+  are : bits ≡ mask (servesRank (spansOf releases deadlines) ranks t (stateOf left)) (length releases)
+  are = bits-serve again (k .before)
 
-  -- the whole run
+  pub slot-can : 0 < bits → CanServe bits ranks left
+  slot-can = can-serve F ranks left sorted (g .queued .few) (g .queued .room) t bits are
 
-  ranks-stay : (left left′ : List ℕ) → length left′ ≡ length left → Ranked (spansOf releases deadlines) order left → Ranked (spansOf releases deadlines) order left′
-  ranks-stay left left′ e r =
-      record { few = r .few; long = r .long; room = omega (arith, e, r .room); known = r .known; ranked = r .ranked; rising = r .rising }
+  -- an awake slot serves the lowest of its ranks
+  pub slot-serves : (table : List ℕ) (byte bits′ : ℕ) (left′ : List ℕ) → (getD table t 0 ≡ asleep → ⊥) → Serves bits ranks left byte bits′ left′ → length left′ ≡ length left → SlotDone releases deadlines ranks arrivals left table t left′ (set table t byte) bits′ next gone u
+  slot-serves table byte bits′ left′ n s long =
+      let on : wakeful (getD table t 0) ≡ true = rw (ne-eqb (getD table t 0) asleep n) in
+      record {
+        table-is = rw on (ap (set table t) (s .byte-is ∙ byte-served F ranks left sorted (g .queued .few) (g .queued .room) t bits are));
+        left-is = rw on (ap stateOf (s .left-is) ∙ left-served F ranks left sorted (g .queued .few) (g .queued .room) t bits are);
+        left-long = long;
+        ready = ready-later releases deadlines ranks arrivals left′ t bits′ next gone u
+            (ready-served again (k .before) left′ bits′ (s .bits-are ∙ rw (s .left-is) (bits-served F ranks left sorted (g .queued .few) (g .queued .room) t bits are)));
+      }
 
-  pub slot-ready : (left₀ table₀ left table : List ℕ) (t bits next gone u : ℕ) → length deadlines ≡ length releases → Runnable (spansOf releases deadlines) order left₀ table₀ → Arriving releases order soon → t < length table
-      → RunTo (spansOf releases deadlines) left₀ table₀ left table t → Standing releases deadlines order soon left t bits next gone u → SlotReady releases deadlines order soon left table t bits next gone u
-  slot-ready left₀ table₀ left table t bits next gone u same g a l r s =
+-- the whole run
+
+module _ (releases deadlines ranks arrivals : List ℕ) where
+  pub slot-ready :
+      (first : ℕ) (left₀ table₀ left table : List ℕ) (t bits next gone u : ℕ) → Runnable releases deadlines ranks arrivals left₀ table₀ →
+      t < length table → RunTo (spansOf releases deadlines) first left₀ table₀ left table t →
+      ReadyAt releases deadlines ranks arrivals left t bits next gone u →
+      SlotReady releases deadlines ranks arrivals left table t bits next gone u
+  slot-ready first left₀ table₀ left table t bits next gone u g l r s =
+      let q = g .queued in
       record {
         inside = l;
         lookable = record {
           short = omega (arith, g .short, r .same-long);
-          same = same;
-          ranks = ranks-stay left₀ left (r .left-long) (g .ranks);
-          arriving = a;
-          standing = s;
+          queued = record { orders = q .orders; few = q .few; room = omega (arith, q .room, r .left-long) };
+          ready = s;
         };
       }
 
-  pub run-turn : (left₀ table₀ left table : List ℕ) (t : ℕ) (left′ table′ : List ℕ) (bits next gone u : ℕ) → t < length table → RunTo (spansOf releases deadlines) left₀ table₀ left table t → SlotDone releases deadlines order soon left table t left′ table′ bits next gone u → RunTo (spansOf releases deadlines) left₀ table₀ left′ table′ (t + 1)
-  run-turn left₀ table₀ left table t left′ table′ bits next gone u l r d =
+  pub run-turn :
+      (first : ℕ) (left₀ table₀ left table : List ℕ) (t : ℕ) (left′ table′ : List ℕ) (bits next gone u : ℕ) → t < length table →
+      RunTo (spansOf releases deadlines) first left₀ table₀ left table t →
+      SlotDone releases deadlines ranks arrivals left table t left′ table′ bits next gone u →
+      RunTo (spansOf releases deadlines) first left₀ table₀ left′ table′ (t + 1)
+  run-turn first left₀ table₀ left table t left′ table′ bits next gone u l r d =
       let F = spansOf releases deadlines in
       let S = awake (awakeOf table₀) in
       let b = wakeful (getD table t 0) in
@@ -115,7 +123,6 @@ module _ (releases deadlines order soon : List ℕ) where
       let more : length table₀ - t ≡ suc (length table₀ - (t + 1)) = omega (arith, r .same-long) in
       let one = add-one t in
       record {
-        within = omega (arith, r .same-long);
         same-long = rw (d .table-is) (length-set table t _) ∙ r .same-long;
         left-long = d .left-long ∙ r .left-long;
         rest = λ i m. rw (d .table-is) (getD-set-other table t i _ 0 (λ e. omega arith)) ∙ r .rest i (omega arith);
@@ -132,5 +139,5 @@ module _ (releases deadlines order soon : List ℕ) where
       taken : (s v : ℕ) → s < length table → table′ ≡ set table s v → take s table ++ (v ∷ []) ≡ take (suc s) table′
       taken s v m e = sym (ap (take (suc s)) e ∙ take-suc-set table s v m)
 
-  pub run-stands : (left table : List ℕ) (t : ℕ) (left′ table′ : List ℕ) (bits next gone u : ℕ) → SlotDone releases deadlines order soon left table t left′ table′ bits next gone u → Standing releases deadlines order soon left′ (t + 1) bits next gone u
-  run-stands left table t left′ table′ bits next gone u d = rw add-one (d .standing)
+  pub run-ready : (left table : List ℕ) (t : ℕ) (left′ table′ : List ℕ) (bits next gone u : ℕ) → SlotDone releases deadlines ranks arrivals left table t left′ table′ bits next gone u → ReadyAt releases deadlines ranks arrivals left′ (t + 1) bits next gone u
+  run-ready left table t left′ table′ bits next gone u d = rw add-one (d .ready)

@@ -12,12 +12,13 @@ use Rattle.sched.specs.Bounded.{anyBelow}
 use Rattle.sched.specs.Bounded.Laws.{any-elim, any-none}
 use Rattle.laws_edf.specs.Run.{State}
 use Rattle.laws_edf.specs.Search.{stateOf}
-use Rattle.laws_extension.specs.Chain.{jobAt}
+use Rattle.laws_edf.specs.Orders.{Sorted, jobAt}
 use Rattle.queue.specs.Mask.{mask}
 use Rattle.queue.specs.Mask.Laws.{mask-alike, mask-drops, mask-none}
 use Rattle.queue.specs.Ranks.{spansOf, servesRank}
-use Rattle.queue.specs.Arrivals.{comesAt, goesAt, orNever, come, waits, Come, Standing}
-use Rattle.queue.specs.Runs.{Reached, Known, Expirable, Expired, Arrivable, Arrived, Sooner, Lookable, Looked}
+use Rattle.queue.specs.Arrivals.{comesAt, goesAt, orBeyond, come, waits, Come, ReadyAt}
+use Rattle.queue.specs.Runs.{Reached, Known, Expirable, Expired, Arrivable, Arrived, Lesser, Lookable, Looked}
+use Rattle.queue.specs.Runs.Reads.{reads}
 use Rattle.queue.proofs.Events.{later-rises}
 
 -- expired ranks leave the bits
@@ -27,56 +28,55 @@ narrowed c true b u h = rw (h refl)
 narrowed true false b u h = refl
 narrowed false false b u h = refl
 
-drop-come : (releases order soon left : List ℕ) (t bits next gone all y : ℕ) → gone ≤ all → y ≡ bits / 2 ^ all * 2 ^ all → Come releases order soon left t bits next gone → Come releases order soon left t y next all
-drop-come releases order soon left t bits next gone all y l e c =
+drop-come : (releases ranks arrivals left : List ℕ) (t bits next gone all y : ℕ) → gone ≤ all → y ≡ bits / 2 ^ all * 2 ^ all → Come releases ranks arrivals left t bits next gone → Come releases ranks arrivals left t y next all
+drop-come releases ranks arrivals left t bits next gone all y l e c =
     let L = stateOf left in
     record {
       most = c .most;
-      bits-are = e ∙ ap (λ (x : ℕ). x / 2 ^ all * 2 ^ all) (c .bits-are) ∙ sym (mask-drops (waits order soon next gone L) (length releases) all)
-          ∙ mask-alike (λ k. leb all k && waits order soon next gone L k) (waits order soon next all L) (length releases)
-          (λ k m. narrowed (come soon next k) (leb all k) (leb gone k) (ltb 0 (L (jobAt order k))) (λ q. le-leb gone k (omega (arith, leb-true all k q))));
+      bits-are = e ∙ ap (λ (x : ℕ). x / 2 ^ all * 2 ^ all) (c .bits-are) ∙ sym (mask-drops (waits ranks arrivals next gone L) (length releases) all)
+          ∙ mask-alike (λ k. leb all k && waits ranks arrivals next gone L k) (waits ranks arrivals next all L) (length releases)
+          (λ k m. narrowed (come arrivals next k) (leb all k) (leb gone k) (ltb 0 (L (jobAt ranks k))) (λ q. le-leb gone k (omega (arith, leb-true all k q))));
       by-now = c .by-now;
     }
 
 -- looking at a slot
 
-module _ {releases deadlines order soon left : List ℕ} {t bits next gone u : ℕ} (g : Lookable releases deadlines order soon left t bits next gone u) where
-  pub look-known : (k : ℕ) → k < length deadlines → Known deadlines order k
-  look-known k l = record {
-    listed = omega (arith, g .same, g .ranks .long);
-    job = omega (arith, g .same, g .ranks .known k (omega (arith, g .same)));
-  }
+module _ {releases deadlines ranks arrivals left : List ℕ} {t bits next gone u : ℕ} (g : Lookable releases deadlines ranks arrivals left t bits next gone u) where
+  ranks-sorted : Sorted (length releases) (λ j. getD deadlines j 0) ranks
+  ranks-sorted = g .queued .orders .by-deadline
 
-  pub look-reached : (i : ℕ) → i < length releases → Reached releases order soon i
-  look-reached i l =
-      let k = g .arriving .known i l in
-      record { listed = omega (arith, g .arriving .long); rank = omega (arith, g .ranks .long); job = g .ranks .known _ k }
+  same : length deadlines ≡ length releases
+  same = g .queued .orders .same
 
-  pub look-expirable : Expirable deadlines order t gone
-  look-expirable = record { short = g .short; known = look-known; went = g .standing .went }
+  pub look-known : (k : ℕ) → k < length deadlines → Known deadlines ranks k
+  look-known k l =
+      record { listed = omega (arith, same, ranks-sorted .long); job = omega (arith, same, ranks-sorted .known k (omega (arith, same))) }
 
-  module _ {all : ℕ} (x : Expired deadlines order t gone all) where
+  pub look-reached : (i : ℕ) → i < length releases → Reached releases ranks arrivals i
+  look-reached = reads (g .queued .orders)
+
+  pub look-expirable : Expirable deadlines ranks t gone
+  look-expirable = record { short = g .short; known = look-known; went = g .ready .went }
+
+  module _ {all : ℕ} (x : Expired deadlines ranks t gone all) where
     pub look-few : all ≤ 64
-    look-few = omega (arith, x .went .most, g .same, g .ranks .few)
+    look-few = omega (arith, x .went .most, same, g .queued .few)
 
-    pub look-arrivable : (y : ℕ) → y ≡ bits / 2 ^ all * 2 ^ all → Arrivable releases order soon left t y next all
+    pub look-arrivable : (y : ℕ) → y ≡ bits / 2 ^ all * 2 ^ all → Arrivable releases ranks arrivals left t y next all
     look-arrivable y e =
         record {
           short = g .short;
-          few = g .ranks .few;
-          long = g .ranks .long;
-          room = g .ranks .room;
-          known = g .ranks .known;
-          arriving = g .arriving;
-          came = drop-come releases order soon left t bits next gone all y (x .more) e (g .standing .came);
+          deadlines = deadlines;
+          queued = g .queued;
+          came = drop-come releases ranks arrivals left t bits next gone all y (x .more) e (g .ready .came);
         }
 
-    pub look-done : (bits′ next′ a b v : ℕ) → Arrived releases order soon left t bits′ next′ all
-        → a ≡ orNever (length releases) (comesAt releases order soon) next′ → b ≡ orNever (length deadlines) (goesAt deadlines order) all
-        → Sooner a b v → Looked releases deadlines order soon left t bits′ next′ all v
+    pub look-done : (bits′ next′ a b v : ℕ) → Arrived releases ranks arrivals left t bits′ next′ all
+        → a ≡ orBeyond (length releases) (comesAt releases ranks arrivals) next′ → b ≡ orBeyond (length deadlines) (goesAt deadlines ranks) all
+        → Lesser a b v → Looked releases deadlines ranks arrivals left t bits′ next′ all v
     look-done bits′ next′ a b v r p q s =
         record {
-          standing = record {
+          ready = record {
             came = r .came;
             went = x .went;
             next-release = omega (arith, p, s .first);
@@ -87,57 +87,57 @@ module _ {releases deadlines order soon left : List ℕ} {t bits next gone u : �
 
   -- before slot u, the ranks that wait are those that slot t may serve
   module _ (before : t < u) where
-    released : (k : ℕ) → k < length releases → (b : Bool) → come soon next k ≡ b → leb (getD releases (jobAt order k) 0) t ≡ b
+    released : (k : ℕ) → k < length releases → (b : Bool) → come arrivals next k ≡ b → leb (getD releases (jobAt ranks k) 0) t ≡ b
     released k l true e =
-        let f = any-elim next (λ i. eqb (getD soon i 0) k) e in
-        let q : getD soon (f .0) 0 ≡ k = eqb-true _ _ (f .2) in
-        le-leb _ t (subst (λ (j : ℕ). getD releases (jobAt order j) 0 ≤ t) q (g .standing .came .by-now (f .0) (f .1)))
+        let f = any-elim next (λ i. eqb (getD arrivals i 0) k) e in
+        let q : getD arrivals (f .0) 0 ≡ k = eqb-true _ _ (f .2) in
+        le-leb _ t (subst (λ (j : ℕ). getD releases (jobAt ranks j) 0 ≤ t) q (g .ready .came .by-now (f .0) (f .1)))
     released k l false e =
-        let f = g .arriving .all k l in
-        lt-leb _ t (subst (λ (j : ℕ). t < getD releases (jobAt order j) 0) (f .2) (go (f .0) (f .1) (f .2) (decLt (f .0) next)))
+        let f = g .queued .orders .by-release .all k l in
+        lt-leb _ t (subst (λ (j : ℕ). t < getD releases (jobAt ranks j) 0) (f .2) (go (f .0) (f .1) (f .2) (decLt (f .0) next)))
       where
-        go : (i : ℕ) → i < length releases → getD soon i 0 ≡ k → Dec (i < next) → t < comesAt releases order soon i
-        go i m q (yes a) = absurd (eqb-false (getD soon i 0) k (any-none next (λ j. eqb (getD soon j 0) k) e i a) q)
+        go : (i : ℕ) → i < length releases → getD arrivals i 0 ≡ k → Dec (i < next) → t < comesAt releases ranks arrivals i
+        go i m q (yes a) = absurd (eqb-false (getD arrivals i 0) k (any-none next (λ j. eqb (getD arrivals j 0) k) e i a) q)
         go i m q (no a) =
-            let r = later-rises (length releases) (comesAt releases order soon) next i (omega arith) m (λ n. g .arriving .rising next i n m) in
-            omega (arith, g .standing .next-release)
+            let r = later-rises (length releases) (comesAt releases ranks arrivals) next i (omega arith) m (λ n. g .queued .orders .by-release .rising next i n m .sooner) in
+            omega (arith, g .ready .next-release)
 
-    expires : (k : ℕ) → k < length releases → Dec (k < gone) → ltb t (getD deadlines (jobAt order k) 0) ≡ leb gone k
-    expires k l (yes a) = le-ltb t _ (g .standing .went .by-now k a) ∙ sym (lt-leb gone k a)
+    expires : (k : ℕ) → k < length releases → Dec (k < gone) → ltb t (getD deadlines (jobAt ranks k) 0) ≡ leb gone k
+    expires k l (yes a) = le-ltb t _ (g .ready .went .by-now k a) ∙ sym (lt-leb gone k a)
     expires k l (no a) =
-        let r = later-rises (length deadlines) (goesAt deadlines order) gone k (omega arith) (omega (arith, g .same)) (λ n. g .ranks .rising gone k n l .sooner) in
-        lt-ltb t _ (omega (arith, g .standing .next-deadline)) ∙ sym (le-leb gone k (omega arith))
+        let r = later-rises (length deadlines) (goesAt deadlines ranks) gone k (omega arith) (omega (arith, same)) (λ n. ranks-sorted .rising gone k n l .sooner) in
+        lt-ltb t _ (omega (arith, g .ready .next-deadline)) ∙ sym (le-leb gone k (omega arith))
 
-    alike : (L : State) (k : ℕ) → k < length releases → servesRank (spansOf releases deadlines) order t L k ≡ waits order soon next gone L k
+    alike : (L : State) (k : ℕ) → k < length releases → servesRank (spansOf releases deadlines) ranks t L k ≡ waits ranks arrivals next gone L k
     alike L k l =
-        ap (λ (b : Bool). b && ltb t (getD deadlines (jobAt order k) 0) && ltb 0 (L (jobAt order k))) (released k l (come soon next k) refl)
-        ∙ ap (λ (b : Bool). come soon next k && b && ltb 0 (L (jobAt order k))) (expires k l (decLt k gone))
+        ap (λ (b : Bool). b && ltb t (getD deadlines (jobAt ranks k) 0) && ltb 0 (L (jobAt ranks k))) (released k l (come arrivals next k) refl)
+        ∙ ap (λ (b : Bool). come arrivals next k && b && ltb 0 (L (jobAt ranks k))) (expires k l (decLt k gone))
 
-    pub bits-serve : bits ≡ mask (servesRank (spansOf releases deadlines) order t (stateOf left)) (length releases)
+    pub bits-serve : bits ≡ mask (servesRank (spansOf releases deadlines) ranks t (stateOf left)) (length releases)
     bits-serve =
-        g .standing .came .bits-are
-        ∙ mask-alike (waits order soon next gone (stateOf left)) (servesRank (spansOf releases deadlines) order t (stateOf left)) (length releases) (λ k l. sym (alike (stateOf left) k l))
+        g .ready .came .bits-are
+        ∙ mask-alike (waits ranks arrivals next gone (stateOf left)) (servesRank (spansOf releases deadlines) ranks t (stateOf left)) (length releases) (λ k l. sym (alike (stateOf left) k l))
 
     -- it stays so for what is left when a rank is served
-    pub stands-served : (left′ : List ℕ) (bits′ : ℕ) → bits′ ≡ mask (servesRank (spansOf releases deadlines) order t (stateOf left′)) (length releases)
-        → Standing releases deadlines order soon left′ t bits′ next gone u
-    stands-served left′ bits′ e =
+    pub ready-served : (left′ : List ℕ) (bits′ : ℕ) → bits′ ≡ mask (servesRank (spansOf releases deadlines) ranks t (stateOf left′)) (length releases)
+        → ReadyAt releases deadlines ranks arrivals left′ t bits′ next gone u
+    ready-served left′ bits′ e =
         record {
           came = record {
-            most = g .standing .came .most;
-            bits-are = e ∙ mask-alike (servesRank (spansOf releases deadlines) order t (stateOf left′)) (waits order soon next gone (stateOf left′)) (length releases) (alike (stateOf left′));
-            by-now = g .standing .came .by-now;
+            most = g .ready .came .most;
+            bits-are = e ∙ mask-alike (servesRank (spansOf releases deadlines) ranks t (stateOf left′)) (waits ranks arrivals next gone (stateOf left′)) (length releases) (alike (stateOf left′));
+            by-now = g .ready .came .by-now;
           };
-          went = g .standing .went;
-          next-release = g .standing .next-release;
-          next-deadline = g .standing .next-deadline;
+          went = g .ready .went;
+          next-release = g .ready .next-release;
+          next-deadline = g .ready .next-deadline;
         }
 
 -- from slot to slot
 
-module _ (releases deadlines order soon : List ℕ) where
-  pub stands-later : (left : List ℕ) (t bits next gone u : ℕ) → Standing releases deadlines order soon left t bits next gone u → Standing releases deadlines order soon left (suc t) bits next gone u
-  stands-later left t bits next gone u s =
+module _ (releases deadlines ranks arrivals : List ℕ) where
+  pub ready-later : (left : List ℕ) (t bits next gone u : ℕ) → ReadyAt releases deadlines ranks arrivals left t bits next gone u → ReadyAt releases deadlines ranks arrivals left (suc t) bits next gone u
+  ready-later left t bits next gone u s =
       record {
         came = record { most = s .came .most; bits-are = s .came .bits-are; by-now = λ i l. omega (arith, s .came .by-now i l) };
         went = record { most = s .went .most; by-now = λ k l. omega (arith, s .went .by-now k l) };
@@ -145,14 +145,14 @@ module _ (releases deadlines order soon : List ℕ) where
         next-deadline = s .next-deadline;
       }
 
-  -- before slot 0 none has come and none expired
-  pub stands-first : (left : List ℕ) → Standing releases deadlines order soon left 0 0 0 0 0
+  -- a run that begins with slot t has seen nobody come and nobody expire
+  pub ready-first : (left : List ℕ) (t : ℕ) → ReadyAt releases deadlines ranks arrivals left t 0 0 0 0
   unfolding anyBelow
-  stands-first left =
+  ready-first left t =
       record {
         came = record {
           most = omega arith;
-          bits-are = sym (mask-none (waits order soon 0 0 (stateOf left)) (length releases) (λ k. refl));
+          bits-are = sym (mask-none (waits ranks arrivals 0 0 (stateOf left)) (length releases) (λ k. refl));
           by-now = λ i l. absurd (omega arith);
         };
         went = record { most = omega arith; by-now = λ k l. absurd (omega arith) };

@@ -5,114 +5,117 @@ use mathlib.Core.Bool.{Bool, not}
 use mathlib.Core.List.{List, _++_}
 use lib.ListN.{length, getD, set, take}
 use lib.Dec.{eqb}
-use Rattle.sched.specs.Jobs.{Jobs, totalVolume}
-use Rattle.sched.specs.Checks.{Passes}
 use Rattle.sched.specs.Slots.{asleep, awake, awakeOf}
-use Rattle.sched.specs.Workable.{workable}
 use Rattle.laws_edf.specs.Run.{Spans, chosen, after, slotByte, bytes, final}
 use Rattle.laws_edf.specs.Search.{stateOf}
-use Rattle.laws_extension.specs.Chain.{RankedJobs, jobAt}
-use Rattle.queue.specs.Ranks.{spansOf, Ranked, servedByte, servedLeft, servedBits}
-use Rattle.queue.specs.Arrivals.{comesAt, goesAt, Arriving, orNever, Come, Gone, Standing}
+use Rattle.laws_edf.specs.Orders.{Orders, jobAt}
+use Rattle.queue.specs.Ranks.{spansOf, servedByte, servedLeft, servedBits}
+use Rattle.queue.specs.Arrivals.{comesAt, goesAt, orBeyond, Come, Gone, ReadyAt}
+pub mod Reads
+pub mod Whole
 
--- the release of the rank at place i of soon can be read
-pub record Reached (releases order soon : List ℕ) (i : ℕ) : Type 0 where
-  pub listed : i < length soon
-  pub rank : getD soon i 0 < length order
-  pub job : jobAt order (getD soon i 0) < length releases
+-- the release of the rank at place i of arrivals can be read
+pub record Reached (releases ranks arrivals : List ℕ) (i : ℕ) : Type 0 where
+  pub listed : i < length arrivals
+  pub rank : getD arrivals i 0 < length ranks
+  pub job : jobAt ranks (getD arrivals i 0) < length releases
 
 -- the deadline of rank k can be read
-pub record Known (deadlines order : List ℕ) (k : ℕ) : Type 0 where
-  pub listed : k < length order
-  pub job : jobAt order k < length deadlines
+pub record Known (deadlines ranks : List ℕ) (k : ℕ) : Type 0 where
+  pub listed : k < length ranks
+  pub job : jobAt ranks k < length deadlines
 
 -- the ranks that expire by slot t can be counted
-pub record Expirable (deadlines order : List ℕ) (t gone : ℕ) : Type 0 where
+pub record Expirable (deadlines ranks : List ℕ) (t gone : ℕ) : Type 0 where
   pub short : t < 65536
-  pub known : (k : ℕ) → k < length deadlines → Known deadlines order k
-  pub went : Gone deadlines order t gone
+  pub known : (k : ℕ) → k < length deadlines → Known deadlines ranks k
+  pub went : Gone deadlines ranks t gone
 
 -- `all` ranks have expired by slot t, and no other
-pub record Expired (deadlines order : List ℕ) (t gone all : ℕ) : Type 0 where
-  pub went : Gone deadlines order t all
+pub record Expired (deadlines ranks : List ℕ) (t gone all : ℕ) : Type 0 where
+  pub went : Gone deadlines ranks t all
   pub more : gone ≤ all
-  pub later : t < orNever (length deadlines) (goesAt deadlines order) all
+  pub later : t < orBeyond (length deadlines) (goesAt deadlines ranks) all
+
+-- the jobs in order, few enough for the bits, and a place in `left` for each
+pub record Queued (releases deadlines ranks arrivals left : List ℕ) : Type 0 where
+  pub orders : Orders releases deadlines ranks arrivals
+  pub few : length releases ≤ 64
+  pub room : length releases ≤ length left
 
 -- the ranks that are released by slot t can join the bits
-pub record Arrivable (releases order soon left : List ℕ) (t bits next gone : ℕ) : Type 0 where
+pub record Arrivable (releases ranks arrivals left : List ℕ) (t bits next gone : ℕ) : Type 0 where
   pub short : t < 65536
-  pub few : length releases ≤ 64
-  pub long : length releases ≤ length order
-  pub room : length releases ≤ length left
-  pub known : (k : ℕ) → k < length releases → jobAt order k < length releases
-  pub arriving : Arriving releases order soon
-  pub came : Come releases order soon left t bits next gone
+  pub deadlines : List ℕ
+  pub queued : Queued releases deadlines ranks arrivals left
+  pub came : Come releases ranks arrivals left t bits next gone
 
 -- they have joined them, and no other
-pub record Arrived (releases order soon left : List ℕ) (t bits next gone : ℕ) : Type 0 where
-  pub came : Come releases order soon left t bits next gone
-  pub later : t < orNever (length releases) (comesAt releases order soon) next
+pub record Arrived (releases ranks arrivals left : List ℕ) (t bits next gone : ℕ) : Type 0 where
+  pub came : Come releases ranks arrivals left t bits next gone
+  pub later : t < orBeyond (length releases) (comesAt releases ranks arrivals) next
 
 -- r is the least of a and b
-pub record Sooner (a b r : ℕ) : Type 0 where
+pub record Lesser (a b r : ℕ) : Type 0 where
   pub first : r ≤ a
   pub second : r ≤ b
   pub either : (t : ℕ) → t < a → t < b → t < r
 
 -- what slot t may serve can be found out
-pub record Lookable (releases deadlines order soon left : List ℕ) (t bits next gone u : ℕ) : Type 0 where
+pub record Lookable (releases deadlines ranks arrivals left : List ℕ) (t bits next gone u : ℕ) : Type 0 where
   pub short : t < 65536
-  pub same : length deadlines ≡ length releases
-  pub ranks : Ranked (spansOf releases deadlines) order left
-  pub arriving : Arriving releases order soon
-  pub standing : Standing releases deadlines order soon left t bits next gone u
+  pub queued : Queued releases deadlines ranks arrivals left
+  pub ready : ReadyAt releases deadlines ranks arrivals left t bits next gone u
 
 -- the bits are what slot t may serve
-pub record Looked (releases deadlines order soon left : List ℕ) (t bits next gone u : ℕ) : Type 0 where
-  pub standing : Standing releases deadlines order soon left t bits next gone u
+pub record Looked (releases deadlines ranks arrivals left : List ℕ) (t bits next gone u : ℕ) : Type 0 where
+  pub ready : ReadyAt releases deadlines ranks arrivals left t bits next gone u
   pub before : t < u
 
 -- the lowest rank is served
-pub record Serves (bits : ℕ) (order left : List ℕ) (byte bits′ : ℕ) (left′ : List ℕ) : Type 0 where
-  pub byte-is : byte ≡ servedByte bits order
-  pub bits-are : bits′ ≡ servedBits bits order left
-  pub left-is : left′ ≡ servedLeft bits order left
+pub record Serves (bits : ℕ) (ranks left : List ℕ) (byte bits′ : ℕ) (left′ : List ℕ) : Type 0 where
+  pub byte-is : byte ≡ servedByte bits ranks
+  pub bits-are : bits′ ≡ servedBits bits ranks left
+  pub left-is : left′ ≡ servedLeft bits ranks left
 
 -- a slot can be served
-pub record SlotReady (releases deadlines order soon left table : List ℕ) (t bits next gone u : ℕ) : Type 0 where
+pub record SlotReady (releases deadlines ranks arrivals left table : List ℕ) (t bits next gone u : ℕ) : Type 0 where
   pub inside : t < length table
-  pub lookable : Lookable releases deadlines order soon left t bits next gone u
+  pub lookable : Lookable releases deadlines ranks arrivals left t bits next gone u
 
 -- the byte says awake
 abbrev pub wakeful : ℕ → Bool
 wakeful byte = not (eqb byte asleep)
 
 -- slot t has been served, if it is awake
-pub record SlotDone (releases deadlines order soon left table : List ℕ) (t : ℕ) (left′ table′ : List ℕ) (bits next gone u : ℕ) : Type 0 where
+pub record SlotDone (releases deadlines ranks arrivals left table : List ℕ) (t : ℕ) (left′ table′ : List ℕ) (bits next gone u : ℕ) : Type 0 where
   pub table-is : table′ ≡ set table t (slotByte (wakeful (getD table t 0)) (chosen (spansOf releases deadlines) (wakeful (getD table t 0)) t (stateOf left)))
   pub left-is : stateOf left′ ≡ after (stateOf left) (chosen (spansOf releases deadlines) (wakeful (getD table t 0)) t (stateOf left))
   pub left-long : length left′ ≡ length left
-  pub standing : Standing releases deadlines order soon left′ (suc t) bits next gone u
+  pub ready : ReadyAt releases deadlines ranks arrivals left′ (suc t) bits next gone u
 
 -- a table can be run through
-pub record Runnable (F : Spans) (order left table : List ℕ) : Type 0 where
+pub record Runnable (releases deadlines ranks arrivals left table : List ℕ) : Type 0 where
   pub short : length table < 65536
-  pub ranks : Ranked F order left
+  pub queued : Queued releases deadlines ranks arrivals left
 
--- the awake slots of the table have been served
-pub record RunDone (F : Spans) (left table left′ table′ : List ℕ) : Type 0 where
-  pub table-is : table′ ≡ bytes F (awake (awakeOf table)) (length table) 0 (stateOf left)
-  pub left-is : stateOf left′ ≡ final F (awake (awakeOf table)) (length table) 0 (stateOf left)
+-- the awake slots of the table from `first` on have been served
+pub record RunDone (F : Spans) (first : ℕ) (left table left′ table′ : List ℕ) : Type 0 where
+  pub table-is : table′ ≡ take first table ++ bytes F (awake (awakeOf table)) (length table - first) first (stateOf left)
+  pub left-is : stateOf left′ ≡ final F (awake (awakeOf table)) (length table - first) first (stateOf left)
   pub left-long : length left′ ≡ length left
 
--- the slots before t have been served; `table₀` and `left₀` are what the run began with
-pub record RunTo (F : Spans) (left₀ table₀ left table : List ℕ) (t : ℕ) : Type 0 where
-  pub within : t ≤ length table₀
+-- the slots from `first` to before t have been served; `table₀` and `left₀` are what the run began with
+pub record RunTo (F : Spans) (first : ℕ) (left₀ table₀ left table : List ℕ) (t : ℕ) : Type 0 where
   pub same-long : length table ≡ length table₀
   pub left-long : length left ≡ length left₀
   pub rest : (i : ℕ) → t ≤ i → getD table i 0 ≡ getD table₀ i 0
-  pub all : bytes F (awake (awakeOf table₀)) (length table₀) 0 (stateOf left₀) ≡ take t table ++ bytes F (awake (awakeOf table₀)) (length table₀ - t) t (stateOf left)
-  pub ends : final F (awake (awakeOf table₀)) (length table₀) 0 (stateOf left₀) ≡ final F (awake (awakeOf table₀)) (length table₀ - t) t (stateOf left)
+  pub all :
+      take first table₀ ++ bytes F (awake (awakeOf table₀)) (length table₀ - first) first (stateOf left₀)
+      ≡ take t table ++ bytes F (awake (awakeOf table₀)) (length table₀ - t) t (stateOf left)
+  pub ends :
+      final F (awake (awakeOf table₀)) (length table₀ - first) first (stateOf left₀)
+      ≡ final F (awake (awakeOf table₀)) (length table₀ - t) t (stateOf left)
 
 -- an array of 64 numbers with the volumes in front, and 0 behind
 pub record Units (volumes units : List ℕ) : Type 0 where

@@ -1,5 +1,5 @@
-// Runs of earliest deadline first over the awake slots of a table. `order` has the jobs by rank: by deadline, equal ones by number; `soon` has the
-// ranks in rising order of their releases.
+// Who may run now, and runs of earliest deadline first over the awake slots of a table. `ranks` are the jobs by deadline, `arrivals` their ranks by
+// release; a set of ranks is a mask with a bit each.
 ghost use mathlib.Core.Path.{_≡_};
 ghost use mathlib.Core.Bool.{_&&_};
 ghost use Prim.Native.Nat.{_*_, _/_, _^_, _≤_, _<_};
@@ -7,17 +7,15 @@ ghost use lib.ListN.{length};
 ghost use lib.Dec.{leb, ltb};
 ghost use Rattle.queue.specs.Mask.{bit};
 ghost use Rattle.queue.specs.Ranks.{spansOf, CanServe};
-ghost use Rattle.queue.specs.Arrivals.{comesAt, goesAt, Arriving, orNever};
-ghost use Rattle.queue.specs.Runs.{Reached, Known, Expirable, Expired, Arrivable, Arrived, Sooner, Lookable, Looked, Serves, SlotReady, SlotDone, Runnable, RunDone, Units};
-
-const ASLEEP: u8 = 255;
-
-const IDLE: u8 = 254;
+ghost use Rattle.queue.specs.Arrivals.{comesAt, goesAt, orBeyond};
+ghost use Rattle.queue.specs.Runs.{Reached, Known, Expirable, Expired, Arrivable, Arrived, Lesser, Lookable, Looked, Serves, SlotReady, SlotDone, Runnable, RunDone, Units};
+use sched::ASLEEP;
+use sched::IDLE;
 
 // A slot behind every table.
-const NEVER: usize = 65536;
+const BEYOND: usize = 65536;
 
-// The ranks that wait, a bit each, when the first `next` of `soon` have come and the first `gone` ranks have expired; it is so up to slot `until`.
+// The ranks that wait, a bit each, when the first `next` of `arrivals` have come and the first `gone` ranks have expired; it is so up to slot `until`.
 struct Ready {
     mask: u64,
     next: usize,
@@ -25,12 +23,14 @@ struct Ready {
     until: usize,
 }
 
+// The ranks that wait when the first `next` of `arrivals` have come.
 struct Coming {
     mask: u64,
     next: usize,
 }
 
-struct Served {
+// The byte of a slot, and the ranks that wait after it.
+struct Choice {
     byte: u8,
     mask: u64,
 }
@@ -41,38 +41,38 @@ fn wide(x: u16) -> usize
     x as usize
 }
 
-// When the rank at place i of `soon` is released.
-fn release_at(i: usize, releases: &[u16], order: &[u8], soon: &[u8]) -> usize
-    requires { ⌜ (i < length (now releases) → Reached (now releases) (now order) (now soon) i) ⌝ }
-    ensures { λ r. ⌜ r ≡ orNever (length (now (releases .entry))) (comesAt (now (releases .entry)) (now (order .entry)) (now (soon .entry))) i ⌝ }
+// When the rank at place i of `arrivals` is released.
+fn release_at(i: usize, releases: &[u16], ranks: &[u8], arrivals: &[u8]) -> usize
+    requires { ⌜ (i < length (now releases) → Reached (now releases) (now ranks) (now arrivals) i) ⌝ }
+    ensures { λ r. ⌜ r ≡ orBeyond (length (now (releases .entry))) (comesAt (now (releases .entry)) (now (ranks .entry)) (now (arrivals .entry))) i ⌝ }
 {
     if i < releases.len() {
-        let rank = soon[i] as usize;
-        let job = order[rank] as usize;
+        let rank = arrivals[i] as usize;
+        let job = ranks[rank] as usize;
         return wide(releases[job]);
     }
-    NEVER
+    BEYOND
 }
 
 // When rank k expires.
-fn deadline_at(k: usize, deadlines: &[u16], order: &[u8]) -> usize
-    requires { ⌜ (k < length (now deadlines) → Known (now deadlines) (now order) k) ⌝ }
-    ensures { λ r. ⌜ r ≡ orNever (length (now (deadlines .entry))) (goesAt (now (deadlines .entry)) (now (order .entry))) k ⌝ }
+fn deadline_at(k: usize, deadlines: &[u16], ranks: &[u8]) -> usize
+    requires { ⌜ (k < length (now deadlines) → Known (now deadlines) (now ranks) k) ⌝ }
+    ensures { λ r. ⌜ r ≡ orBeyond (length (now (deadlines .entry))) (goesAt (now (deadlines .entry)) (now (ranks .entry))) k ⌝ }
 {
     if k < deadlines.len() {
-        let job = order[k] as usize;
+        let job = ranks[k] as usize;
         return wide(deadlines[job]);
     }
-    NEVER
+    BEYOND
 }
 
 // How many ranks have expired by slot t, of which the first `gone` are known.
-fn expire(t: usize, gone: usize, deadlines: &[u16], order: &[u8]) -> usize
-    requires { ⌜ Expirable (now deadlines) (now order) t gone ⌝ }
-    ensures { λ r. ⌜ Expired (now (deadlines .entry)) (now (order .entry)) t gone r ⌝ }
+fn expire(t: usize, gone: usize, deadlines: &[u16], ranks: &[u8]) -> usize
+    requires { ⌜ Expirable (now deadlines) (now ranks) t gone ⌝ }
+    ensures { λ r. ⌜ Expired (now (deadlines .entry)) (now (ranks .entry)) t gone r ⌝ }
 {
     let mut k = gone;
-    while deadline_at(k, deadlines, order) <= t {
+    while deadline_at(k, deadlines, ranks) <= t {
         k += 1;
     }
     k
@@ -110,29 +110,30 @@ fn arrive(
     next: usize,
     gone: usize,
     releases: &[u16],
-    order: &[u8],
-    soon: &[u8],
+    ranks: &[u8],
+    arrivals: &[u8],
     left: &[u16],
 ) -> Coming
-    requires { ⌜ Arrivable (now releases) (now order) (now soon) (now left) t mask next gone ⌝ }
-    ensures { λ r. ⌜ Arrived (now (releases .entry)) (now (order .entry)) (now (soon .entry)) (now (left .entry)) t (r .mask) (r .next) gone ⌝ }
+    requires { ⌜ Arrivable (now releases) (now ranks) (now arrivals) (now left) t mask next gone ⌝ }
+    ensures { λ r. ⌜ Arrived (now (releases .entry)) (now (ranks .entry)) (now (arrivals .entry)) (now (left .entry)) t (r .mask) (r .next) gone ⌝ }
 {
-    let mut ranks = mask;
+    let mut bits = mask;
     let mut i = next;
-    while release_at(i, releases, order, soon) <= t {
-        let rank = soon[i] as usize;
-        let job = order[rank] as usize;
-        ranks += joining(rank, gone, left[job]);
+    while release_at(i, releases, ranks, arrivals) <= t {
+        let rank = arrivals[i] as usize;
+        let job = ranks[rank] as usize;
+        bits += joining(rank, gone, left[job]);
         i += 1;
     }
     Coming {
-        mask: ranks,
+        mask: bits,
         next: i,
     }
 }
 
-fn sooner(a: usize, b: usize) -> usize
-    ensures { λ r. ⌜ Sooner a b r ⌝ }
+// The lesser of two slots.
+fn least(a: usize, b: usize) -> usize
+    ensures { λ r. ⌜ Lesser a b r ⌝ }
 {
     if a < b { a } else { b }
 }
@@ -143,48 +144,48 @@ fn look(
     last: Ready,
     releases: &[u16],
     deadlines: &[u16],
-    order: &[u8],
-    soon: &[u8],
+    ranks: &[u8],
+    arrivals: &[u8],
     left: &[u16],
 ) -> Ready
-    requires { ⌜ Lookable (now releases) (now deadlines) (now order) (now soon) (now left) t (last .mask) (last .next) (last .gone) (last .until) ⌝ }
-    ensures { λ r. ⌜ Looked (now (releases .entry)) (now (deadlines .entry)) (now (order .entry)) (now (soon .entry)) (now (left .entry)) t (r .mask) (r .next) (r .gone) (r .until) ⌝ }
+    requires { ⌜ Lookable (now releases) (now deadlines) (now ranks) (now arrivals) (now left) t (last .mask) (last .next) (last .gone) (last .until) ⌝ }
+    ensures { λ r. ⌜ Looked (now (releases .entry)) (now (deadlines .entry)) (now (ranks .entry)) (now (arrivals .entry)) (now (left .entry)) t (r .mask) (r .next) (r .gone) (r .until) ⌝ }
 {
-    let gone = expire(t, last.gone, deadlines, order);
+    let gone = expire(t, last.gone, deadlines, ranks);
     let kept = drop_below(last.mask, gone);
-    let coming = arrive(t, kept, last.next, gone, releases, order, soon, left);
-    let release = release_at(coming.next, releases, order, soon);
-    let deadline = deadline_at(gone, deadlines, order);
+    let coming = arrive(t, kept, last.next, gone, releases, ranks, arrivals, left);
+    let release = release_at(coming.next, releases, ranks, arrivals);
+    let deadline = deadline_at(gone, deadlines, ranks);
     Ready {
         mask: coming.mask,
         next: coming.next,
         gone,
-        until: sooner(release, deadline),
+        until: least(release, deadline),
     }
 }
 
 // Serves the lowest of the ranks.
-fn serve(mask: u64, left: &mut [u16], order: &[u8]) -> Served
-    requires { ⌜ (0 < mask → CanServe mask (now order) (now left)) ⌝ }
-    ensures { λ r. ⌜ Serves mask (now (order .entry)) (now (left .entry)) (r .byte) (r .mask) (now (left .exit)) ⌝ }
+fn serve(mask: u64, left: &mut [u16], ranks: &[u8]) -> Choice
+    requires { ⌜ (0 < mask → CanServe mask (now ranks) (now left)) ⌝ }
+    ensures { λ r. ⌜ Serves mask (now (ranks .entry)) (now (left .entry)) (r .byte) (r .mask) (now (left .exit)) ⌝ }
 {
     if mask == 0 {
-        return Served {
+        return Choice {
             byte: IDLE,
             mask: 0,
         };
     }
     let rank = u64::trailing_zeros(mask);
-    let byte = order[rank as usize];
+    let byte = ranks[rank as usize];
     let job = byte as usize;
     left[job] -= 1;
     if left[job] == 0 {
-        return Served {
+        return Choice {
             byte,
             mask: mask - (1u64 << rank),
         };
     }
-    Served { byte, mask }
+    Choice { byte, mask }
 }
 
 // What slot t may serve: as it was last, or looked at anew.
@@ -193,17 +194,17 @@ fn current(
     last: Ready,
     releases: &[u16],
     deadlines: &[u16],
-    order: &[u8],
-    soon: &[u8],
+    ranks: &[u8],
+    arrivals: &[u8],
     left: &[u16],
 ) -> Ready
-    requires { ⌜ Lookable (now releases) (now deadlines) (now order) (now soon) (now left) t (last .mask) (last .next) (last .gone) (last .until) ⌝ }
-    ensures { λ r. ⌜ Looked (now (releases .entry)) (now (deadlines .entry)) (now (order .entry)) (now (soon .entry)) (now (left .entry)) t (r .mask) (r .next) (r .gone) (r .until) ⌝ }
+    requires { ⌜ Lookable (now releases) (now deadlines) (now ranks) (now arrivals) (now left) t (last .mask) (last .next) (last .gone) (last .until) ⌝ }
+    ensures { λ r. ⌜ Looked (now (releases .entry)) (now (deadlines .entry)) (now (ranks .entry)) (now (arrivals .entry)) (now (left .entry)) t (r .mask) (r .next) (r .gone) (r .until) ⌝ }
 {
     if t < last.until {
         return last;
     }
-    look(t, last, releases, deadlines, order, soon, left)
+    look(t, last, releases, deadlines, ranks, arrivals, left)
 }
 
 // Serves slot t if it is awake.
@@ -212,39 +213,40 @@ fn slot(
     last: Ready,
     releases: &[u16],
     deadlines: &[u16],
-    order: &[u8],
-    soon: &[u8],
+    ranks: &[u8],
+    arrivals: &[u8],
     left: &mut [u16],
     table: &mut [u8],
 ) -> Ready
-    requires { ⌜ SlotReady (now releases) (now deadlines) (now order) (now soon) (now left) (now table) t (last .mask) (last .next) (last .gone) (last .until) ⌝ }
-    ensures { λ r. ⌜ SlotDone (now (releases .entry)) (now (deadlines .entry)) (now (order .entry)) (now (soon .entry)) (now (left .entry)) (now (table .entry)) t (now (left .exit)) (now (table .exit)) (r .mask) (r .next) (r .gone) (r .until) ⌝ }
+    requires { ⌜ SlotReady (now releases) (now deadlines) (now ranks) (now arrivals) (now left) (now table) t (last .mask) (last .next) (last .gone) (last .until) ⌝ }
+    ensures { λ r. ⌜ SlotDone (now (releases .entry)) (now (deadlines .entry)) (now (ranks .entry)) (now (arrivals .entry)) (now (left .entry)) (now (table .entry)) t (now (left .exit)) (now (table .exit)) (r .mask) (r .next) (r .gone) (r .until) ⌝ }
 {
     if table[t] == ASLEEP {
         return last;
     }
-    let fresh = current(t, last, releases, deadlines, order, soon, left);
-    let served = serve(fresh.mask, left, order);
-    table[t] = served.byte;
+    let fresh = current(t, last, releases, deadlines, ranks, arrivals, left);
+    let choice = serve(fresh.mask, left, ranks);
+    table[t] = choice.byte;
     Ready {
-        mask: served.mask,
+        mask: choice.mask,
         next: fresh.next,
         gone: fresh.gone,
         until: fresh.until,
     }
 }
 
-// Serves the awake slots of a table in rising order; what is not served stays in left.
+// Serves the awake slots of a table from slot `first` on, in rising order; what is not served stays in left.
 pub fn run(
+    first: usize,
     releases: &[u16],
     deadlines: &[u16],
-    order: &[u8],
-    soon: &[u8],
+    ranks: &[u8],
+    arrivals: &[u8],
     left: &mut [u16],
     table: &mut [u8],
 )
-    requires { ⌜ (length (now deadlines) ≡ length (now releases)) × Runnable (spansOf (now releases) (now deadlines)) (now order) (now left) (now table) × Arriving (now releases) (now order) (now soon) ⌝ }
-    ensures { λ r. ⌜ RunDone (spansOf (now (releases .entry)) (now (deadlines .entry))) (now (left .entry)) (now (table .entry)) (now (left .exit)) (now (table .exit)) ⌝ }
+    requires { ⌜ Runnable (now releases) (now deadlines) (now ranks) (now arrivals) (now left) (now table) ⌝ }
+    ensures { λ r. ⌜ RunDone (spansOf (now (releases .entry)) (now (deadlines .entry))) first (now (left .entry)) (now (table .entry)) (now (left .exit)) (now (table .exit)) ⌝ }
 {
     let mut last = Ready {
         mask: 0,
@@ -252,9 +254,9 @@ pub fn run(
         gone: 0,
         until: 0,
     };
-    let mut t = 0;
+    let mut t = first;
     while t < table.len() {
-        last = slot(t, last, releases, deadlines, order, soon, left, table);
+        last = slot(t, last, releases, deadlines, ranks, arrivals, left, table);
         t += 1;
     }
 }

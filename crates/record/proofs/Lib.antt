@@ -1,4 +1,3 @@
-pub mod Bytes
 pub mod Bits
 pub mod Fill
 pub mod Parts

@@ -1,18 +1,18 @@
 -- 01, "Plan record bytes": what the writer puts out for each horizon, table and lent output, and 01's number and values for each answer.
 use Prim.Native.Nat.{ℕ, zero, suc, _+_, _*_, _/_, _%_, _≤_}
 use mathlib.Core.Path.{_≡_}
-use mathlib.Core.Bool.{Bool, true, false, not, _&&_}
+use mathlib.Core.Bool.{Bool, true, false, not}
 use mathlib.Core.List.{List, [], _∷_, _++_}
-use lib.ListN.{length, getD, take, drop}
-use lib.Dec.{leb, ltb, eqb}
+use lib.ListN.{length, take, drop}
+use lib.Dec.{eqb}
 use Rattle.sched.specs.Bounded.{keep}
+use Rattle.sched.specs.TwoBytes.{twoBytes}
 use Rattle.sched.specs.Slots.{awake, awakeOf, asleep}
 use Rattle.sched.specs.Energy.{awakeSlots}
 use Rattle.sched.specs.Refusals.{number, place}
-use Rattle.sched.specs.Checks.{unless, andThen}
+use Rattle.sched.specs.Checks.{andThen, lengthCheck, slotsCheck}
 use Rattle.sched.specs.declared.Checked.{Checked}
 use Rattle.sched.specs.declared.Checked.the-variants.{Passed, Refused as Faulty}
-use Rattle.sched.specs.declared.Refusal.the-variants.{OutOfRange, TooShort, BadByte}
 use Rattle.record.specs.declared.RecordWritten.{RecordWritten}
 use Rattle.record.specs.declared.RecordWritten.the-variants.{Written, Refused}
 pub mod Laws
@@ -44,13 +44,9 @@ mapOf S = mapFrom (mapLength (length S)) 0 S
 abbrev pub slotBytes : List ℕ → List ℕ
 slotBytes slots = keep (λ byte. not (eqb byte asleep)) slots
 
--- "H in two bytes, low first"
-abbrev pub horizonBytes : ℕ → List ℕ
-horizonBytes h = (h % 256) ∷ (h / 256) ∷ []
-
--- what stands before the slot bytes
+-- what stands before the slot bytes: "H in two bytes, low first", and the map
 abbrev pub frontOf : ℕ → List ℕ → List ℕ
-frontOf h slots = horizonBytes h ++ mapOf (awakeOf slots)
+frontOf h slots = twoBytes h ++ mapOf (awakeOf slots)
 
 -- the record of a table of just H bytes: "The slot bytes are written directly behind the map."
 unfoldable pub recordOf : ℕ → List ℕ → List ℕ
@@ -60,36 +56,18 @@ recordOf h slots = frontOf h slots ++ slotBytes slots
 abbrev pub recordBytes : ℕ → List ℕ → List ℕ
 recordBytes h table = recordOf h (take h table)
 
--- 21, "here only 64 to 253", for the k slots from slot t on
-unfoldable pub bytesFrom : ℕ → ℕ → List ℕ → Checked
-bytesFrom zero t slots = Passed
-bytesFrom (suc k) t slots =
-    let byte = getD slots t 0 in
-    unless (leb 64 byte && leb byte 253) (BadByte t) (bytesFrom k (suc t) slots)
-
-abbrev pub bytesCheck : List ℕ → Checked
-bytesCheck slots = bytesFrom (length slots) 0 slots
-
--- "12 for H, 17 for the table, 21"
-abbrev pub tableCheck : ℕ → List ℕ → Checked
-tableCheck h table =
-    unless (eqb h 0) (OutOfRange 0)
-    (unless (ltb 4096 h) (OutOfRange 0)
-    (unless (ltb (length table) h) (TooShort h)
-    (bytesCheck (take h table))))
-
--- 17 for an output that does not hold the record
+-- 17 for an output that does not hold these bytes
 abbrev pub roomCheck : List ℕ → List ℕ → Checked
-roomCheck bytes out = unless (ltb (length out) (length bytes)) (TooShort (length bytes)) Passed
+roomCheck bytes out = lengthCheck (length out) (length bytes)
 
--- then "17 for the output"
+-- "12 for H, 17 for the table, 21 (here only 64 to 253), 17 for the output"
 abbrev pub writeCheck : ℕ → List ℕ → List ℕ → Checked
-writeCheck h table out = andThen (tableCheck h table) (roomCheck (recordBytes h table) out)
+writeCheck h table out = andThen (slotsCheck h table) (roomCheck (recordBytes h table) out)
 
 -- the answer for a table of just H bytes: the record's length and the awake slots
-abbrev pub answerTo : ℕ → List ℕ → Checked → RecordWritten
-answerTo h slots Passed = Written (record { bytes = length (recordOf h slots); awake = awakeSlots (awakeOf slots) })
-answerTo h slots (Faulty r) = Refused r
+abbrev pub writeAnswer : ℕ → List ℕ → Checked → RecordWritten
+writeAnswer h slots Passed = Written (record { bytes = length (recordOf h slots); awake = awakeSlots (awakeOf slots) })
+writeAnswer h slots (Faulty r) = Refused r
 
 -- a lent buffer with these bytes at its front
 abbrev pub stored : List ℕ → List ℕ → List ℕ
@@ -111,9 +89,9 @@ writtenValues (Refused r) = place r ∷ []
 
 -- the promise: number and values of the answer, its case, and every byte of the output
 pub record Writes (h : ℕ) (table out : List ℕ) (answer : RecordWritten) (after : List ℕ) : Type 0 where
-  pub number : writtenNumber answer ≡ writtenNumber (answerTo h (take h table) (writeCheck h table out))
-  pub values : writtenValues answer ≡ writtenValues (answerTo h (take h table) (writeCheck h table out))
-  pub same : answer ≡ answerTo h (take h table) (writeCheck h table out)
+  pub number : writtenNumber answer ≡ writtenNumber (writeAnswer h (take h table) (writeCheck h table out))
+  pub values : writtenValues answer ≡ writtenValues (writeAnswer h (take h table) (writeCheck h table out))
+  pub same : answer ≡ writeAnswer h (take h table) (writeCheck h table out)
   pub bytes : after ≡ outAfter (recordBytes h table) out (writeCheck h table out)
 
 -- what the writer's parts need and promise for a table of just H bytes
@@ -125,5 +103,5 @@ pub record Fits (h : ℕ) (slots : List ℕ) (behind : ℕ) (out : List ℕ) : T
   pub room : length (recordOf h slots) ≤ length out
 
 pub record WritesSlots (h : ℕ) (slots out : List ℕ) (answer : RecordWritten) (after : List ℕ) : Type 0 where
-  pub same : answer ≡ answerTo h slots (roomCheck (recordOf h slots) out)
+  pub same : answer ≡ writeAnswer h slots (roomCheck (recordOf h slots) out)
   pub bytes : after ≡ outAfter (recordOf h slots) out (roomCheck (recordOf h slots) out)

@@ -6,7 +6,9 @@ ghost use lib.ListN.{length};
 ghost use lib.Count.{ones};
 ghost use Rattle.sched.specs.Bounded.{total};
 ghost use Rattle.sched.specs.Slots.{awake, awakeOf};
-ghost use Rattle.record.specs.Record.{bitOf, bits, mapLength, mapOf, slotBytes, horizonBytes, frontOf, recordOf, bytesCheck, stored, Fits, WritesSlots, Writes};
+ghost use Rattle.sched.specs.TwoBytes.{twoBytes};
+ghost use Rattle.record.specs.Record.{bitOf, bits, mapLength, mapOf, slotBytes, frontOf, recordOf, stored, Fits, WritesSlots, Writes};
+use sched::ASLEEP;
 use sched::Checked;
 use sched::Refusal;
 
@@ -21,29 +23,12 @@ pub enum RecordWritten {
     Refused(Refusal),
 }
 
-// The lowest slot whose byte means nothing, if there is one.
-fn check_bytes(slots: &[u8]) -> Checked
-    ensures { λ c. ⌜ c ≡ bytesCheck (now (slots .entry)) ⌝ }
-{
-    let mut t = 0;
-    while t < slots.len() {
-        if slots[t] < 64 {
-            t += 1;
-        } else if 253 < slots[t] {
-            t += 1;
-        } else {
-            return Checked::Refused(Refusal::BadByte(t));
-        }
-    }
-    Checked::Passed
-}
-
 // 1 for an awake slot; behind the last slot everything sleeps.
 fn bit(slots: &[u8], t: usize) -> u8
     ensures { λ r. ⌜ r ≡ bitOf (awake (awakeOf (now (slots .entry))) t) ⌝ }
 {
     if t < slots.len() {
-        if slots[t] == 255 {
+        if slots[t] == ASLEEP {
             return 0;
         }
         return 1;
@@ -101,7 +86,7 @@ fn fill_slots(slots: &[u8], out: &mut [u8])
     let mut at = 0;
     let mut t = 0;
     while t < slots.len() {
-        if slots[t] == 255 {
+        if slots[t] == ASLEEP {
             t += 1;
         } else {
             out[at] = slots[t];
@@ -114,7 +99,7 @@ fn fill_slots(slots: &[u8], out: &mut [u8])
 // The horizon in two bytes, low first.
 fn put_horizon(h: u16, out: &mut [u8])
     requires { ⌜ 2 ≤ length (now out) ⌝ }
-    ensures { λ _. ⌜ now (out .exit) ≡ stored (horizonBytes h) (now (out .entry)) ⌝ }
+    ensures { λ _. ⌜ now (out .exit) ≡ stored (twoBytes h) (now (out .entry)) ⌝ }
 {
     out[0] = (h % 256) as u8;
     out[1] = (h / 256) as u8;
@@ -146,28 +131,21 @@ fn write_slots(h: u16, slots: &[u8], out: &mut [u8]) -> RecordWritten
     let awake = count_awake(slots);
     let behind = 2 + (slots.len() + 7) / 8;
     let bytes = behind + awake;
-    if out.len() < bytes {
-        return RecordWritten::Refused(Refusal::TooShort(bytes));
+    match sched::check_length(out.len(), bytes) {
+        Checked::Passed => {
+            fill_record(h, slots, behind, out);
+            RecordWritten::Written(RecordSize { bytes, awake })
+        }
+        Checked::Refused(r) => RecordWritten::Refused(r),
     }
-    fill_record(h, slots, behind, out);
-    RecordWritten::Written(RecordSize { bytes, awake })
 }
 
 // The record of the first h bytes of the table, or the first fault.
 pub fn write(h: u16, table: &[u8], out: &mut [u8]) -> RecordWritten
     ensures { λ r. ⌜ Writes h (now (table .entry)) (now (out .entry)) r (now (out .exit)) ⌝ }
 {
-    if h == 0 {
-        return RecordWritten::Refused(Refusal::OutOfRange(0));
-    }
-    if 4096 < h {
-        return RecordWritten::Refused(Refusal::OutOfRange(0));
-    }
     let end = h as usize;
-    if table.len() < end {
-        return RecordWritten::Refused(Refusal::TooShort(end));
-    }
-    match check_bytes(&table[..end]) {
+    match sched::check_slots(h, table) {
         Checked::Passed => write_slots(h, &table[..end], out),
         Checked::Refused(r) => RecordWritten::Refused(r),
     }

@@ -1,3 +1,4 @@
-pub mod Laws
+pub mod JobByJob
+pub mod Bytes
 pub mod Tally
 pub mod Copied

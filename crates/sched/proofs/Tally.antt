@@ -58,7 +58,7 @@ module _ (table : List ℕ) (awake runs : ℕ) (on : Bool) (t : ℕ) (c : Tally 
   tally-awake-few l = omega (arith, awake-at-most (awakeOf table), length-map table (λ byte. not (eqb byte 255)))
 
   pub tally-runs-few : length table ≤ 4096 → runs ≤ 2048
-  tally-runs-few l = omega (arith, runs-few (awakeOf table) (rw length-map l))
+  tally-runs-few l = omega (arith, runs-few false (awakeOf table) (rw length-map l))
 
   pub tally-end : length table ≤ t → (awake ≡ awakeSlots (awakeOf table)) × (runs ≡ runsFrom false (awakeOf table))
   unfolding awakeSlots runsFrom
@@ -72,5 +72,7 @@ module _ (table : List ℕ) (awake runs : ℕ) (on : Bool) (t : ℕ) (c : Tally 
 pub cost-fits : (q runs : ℕ) → q ≤ 65535 → runs ≤ 2048 → q * runs ≤ 65535 * 2048
 cost-fits q runs a b = mul-le-mul a b
 
-pub figures-are : (J : Jobs) (table : List ℕ) (q awake runs : ℕ) → (awake ≡ awakeSlots (awakeOf table)) × (runs ≡ runsFrom false (awakeOf table)) → J .wake ≡ q → _≡_ {A = Figures} (record { energy = awake + q * runs; awake = awake; runs = runs }) (tableFigures J table)
-figures-are J table q awake runs e w = rw (e .0, e .1, ← w)
+pub figures-are : (J : Jobs) (table : List ℕ) (q awake runs : ℕ) →
+    (awake ≡ awakeSlots (awakeOf table)) × (runs ≡ runsFrom false (awakeOf table)) → J .wake ≡ q → J .start ≡ false →
+    _≡_ {A = Figures} (record { energy = awake + q * runs; awake = awake; runs = runs }) (tableFigures J table)
+figures-are J table q awake runs e w s = rw (e .0, e .1, ← w, s)

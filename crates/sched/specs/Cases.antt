@@ -13,10 +13,13 @@ use Rattle.sched.specs.Energy.{awakeSlots, runsFrom}
 use Rattle.sched.specs.Overload.{volumeIf, volumeInside, overloaded, overloadEndingAt, shownOverload}
 use Rattle.sched.specs.Skeleton.{isSkeleton, skeletons, leastOf, leastSkeleton}
 use Rattle.sched.specs.Workable.{mostFrom, workable}
-use Rattle.sched.specs.Steps.{helps, wakes, nextWake, wokenIn, woken, wakeAll, extended, earliest, fill, tableOf}
+use Rattle.sched.specs.Extension.{helps, wakeable, nextWake, wokenIn, woken, wakeAll, extended}
+use Rattle.sched.specs.Table.{earliest, fillBy, tableOf}
+use Rattle.sched.specs.Sleep.{sleepRule}
+use Rattle.sched.specs.Steps.{tableFrom, planTable}
 use Rattle.sched.specs.declared.Outcome.{Outcome}
 use Rattle.sched.specs.declared.Outcome.the-variants.{Planned, Overloaded, Refused}
-use Rattle.sched.specs.Outcomes.{figuresOf, planned, stepOne, plan, outcomeNumber, outcomeValues}
+use Rattle.sched.specs.Outcomes.{figuresOf, planned, earlyAnswer, planBy, plan, outcomeNumber, outcomeValues}
 
 -- a job as 01 writes it, (r, d, p)
 record Job : Type 0 where
@@ -102,5 +105,6 @@ pub starred-plans : map (λ w. found (w .list)) starred ≡ starred
 unfolding job jobs members skeletonFor orderFor found plans overloads starred
     total anyBelow allBelow sumBelow maxBelow leastFrom lastBelow keep firstLeast checkFrom allSets awakeSlots runsFrom
     volumeIf volumeInside overloaded overloadEndingAt shownOverload isSkeleton skeletons leastOf leastSkeleton mostFrom workable
-    helps wakes nextWake wokenIn woken wakeAll extended earliest fill tableOf figuresOf planned stepOne plan
+    helps wakeable nextWake wokenIn woken wakeAll extended earliest fillBy tableOf sleepRule tableFrom planTable
+    figuresOf planned earlyAnswer planBy plan
 starred-plans = refl

@@ -1,14 +1,15 @@
 -- 01, "Words of the plan", second paragraph: when a list passes the list checks; and "Refused, and where": the order in which planner, judge
--- and list writer find a fault, 12 for H, 19, 12 for the count, 15 for the lowest faulty job.
+-- and list writer find a fault, 12 for H, 19, 12 for the count, 15 for the lowest faulty job. The checks of H, of a length and of a table's
+-- bytes stand by themselves, because others make them too.
 use Prim.Native.Nat.{ℕ, zero, suc, _≤_, _<_}
 use mathlib.Core.Path.{_≡_}
-use mathlib.Core.Bool.{Bool, true, false, not}
+use mathlib.Core.Bool.{Bool, true, false, not, _&&_}
 use mathlib.Core.List.{List}
 use lib.ListN.{length, getD}
 use lib.Dec.{leb, ltb, eqb}
 use Rattle.sched.specs.Jobs.{Jobs, count, release, deadline, volume}
 use Rattle.sched.specs.declared.Refusal.{Refusal}
-use Rattle.sched.specs.declared.Refusal.the-variants.{OutOfRange, BadJob, Unequal}
+use Rattle.sched.specs.declared.Refusal.the-variants.{OutOfRange, BadJob, TooShort, Unequal, BadByte}
 use Rattle.sched.specs.declared.Checked.{Checked}
 use Rattle.sched.specs.declared.Checked.the-variants.{Passed, Refused}
 pub mod Laws
@@ -28,39 +29,75 @@ pub record Passes (J : Jobs) : Type 0 where
   pub few : count J ≤ 64
   pub good : (j : ℕ) → j < count J → GoodJob (J .horizon) (release J j) (deadline J j) (volume J j)
 
--- the first fault or the rest of the checks
-abbrev pub unless : Bool → Refusal → Checked → Checked
-unless true r c = Refused r
-unless false r c = c
-
--- 15: "r not below d, or d above H, or p is 0"
-abbrev pub jobCheck : ℕ → ℕ → ℕ → ℕ → ℕ → Checked
-jobCheck h j r d p =
-    unless (leb d r) (BadJob j)
-    (unless (ltb h d) (BadJob j)
-    (unless (eqb p 0) (BadJob j) Passed))
+-- a refusal if the test holds, else the rest of the checks
+abbrev pub refuseIf : Bool → Refusal → Checked → Checked
+refuseIf true r c = Refused r
+refuseIf false r c = c
 
 -- the first check that fails, or the rest
 abbrev pub andThen : Checked → Checked → Checked
 andThen Passed c = c
 andThen (Refused r) c = Refused r
 
--- the k jobs from number j on
-unfoldable pub checkFrom : ℕ → ℕ → ℕ → List ℕ → List ℕ → List ℕ → Checked
-checkFrom zero j h rs ds ps = Passed
-checkFrom (suc k) j h rs ds ps =
-    andThen (jobCheck h j (getD rs j 0) (getD ds j 0) (getD ps j 0)) (checkFrom k (suc j) h rs ds ps)
+-- 12: "H outside 1 to 4,096 (place 0)"
+abbrev pub horizonCheck : ℕ → Checked
+horizonCheck h = refuseIf (eqb h 0) (OutOfRange 0) (refuseIf (ltb 4096 h) (OutOfRange 0) Passed)
+
+-- 17: "a lent buffer or list is too short"
+abbrev pub lengthCheck : ℕ → ℕ → Checked
+lengthCheck have need = refuseIf (ltb have need) (TooShort need) Passed
+
+-- 12 for H and 17 for a table that comes without a list
+abbrev pub tableCheck : ℕ → ℕ → Checked
+tableCheck h have = andThen (horizonCheck h) (lengthCheck have h)
+
+-- 21, "here only 64 to 253", for the k slots from slot t on: a byte that means nothing in any table
+unfoldable pub bytesFrom : ℕ → ℕ → List ℕ → Checked
+bytesFrom zero t table = Passed
+bytesFrom (suc k) t table =
+    let byte = getD table t 0 in
+    refuseIf (leb 64 byte && leb byte 253) (BadByte t) (bytesFrom k (suc t) table)
+
+-- 12, 17, then 21 for the first H slots of such a table
+abbrev pub slotsCheck : ℕ → List ℕ → Checked
+slotsCheck h table = andThen (tableCheck h (length table)) (bytesFrom h 0 table)
+
+-- a check of a job, from the horizon, the job's number, release, deadline and volume
+abbrev pub JobCheck : Type 0
+JobCheck = ℕ → ℕ → ℕ → ℕ → ℕ → Checked
+
+-- 15: "r not below d, or d above H, or p is 0"
+abbrev pub jobCheck : JobCheck
+jobCheck h j r d p =
+    refuseIf (leb d r) (BadJob j)
+    (refuseIf (ltb h d) (BadJob j)
+    (refuseIf (eqb p 0) (BadJob j) Passed))
+
+-- the k jobs from number j on, each by the same check
+unfoldable pub checkFrom : JobCheck → ℕ → ℕ → ℕ → List ℕ → List ℕ → List ℕ → Checked
+checkFrom check zero j h rs ds ps = Passed
+checkFrom check (suc k) j h rs ds ps =
+    andThen (check h j (getD rs j 0) (getD ds j 0) (getD ps j 0)) (checkFrom check k (suc j) h rs ds ps)
 
 -- "15 for the lowest faulty job"
 abbrev pub jobsCheck : ℕ → List ℕ → List ℕ → List ℕ → Checked
-jobsCheck h rs ds ps = checkFrom (length rs) 0 h rs ds ps
+jobsCheck h rs ds ps = checkFrom jobCheck (length rs) 0 h rs ds ps
 
--- H, the three lengths, the count, the jobs
+-- 12: "more than 64 jobs (place 4)"
+abbrev pub countCheck : ℕ → Checked
+countCheck n = refuseIf (ltb 64 n) (OutOfRange 4) Passed
+
+-- the three lengths, the count, the jobs
+abbrev pub listsCheck : ℕ → List ℕ → List ℕ → List ℕ → Checked
+listsCheck h rs ds ps =
+    refuseIf (not (eqb (length ds) (length rs))) (Unequal 0)
+    (refuseIf (not (eqb (length ps) (length rs))) (Unequal 0)
+    (andThen (countCheck (length rs)) (jobsCheck h rs ds ps)))
+
+-- behind 12 for H
 abbrev pub listCheck : ℕ → List ℕ → List ℕ → List ℕ → Checked
-listCheck h rs ds ps =
-    unless (eqb h 0) (OutOfRange 0)
-    (unless (ltb 4096 h) (OutOfRange 0)
-    (unless (not (eqb (length ds) (length rs))) (Unequal 0)
-    (unless (not (eqb (length ps) (length rs))) (Unequal 0)
-    (unless (ltb 64 (length rs)) (OutOfRange 4)
-    (jobsCheck h rs ds ps)))))
+listCheck h rs ds ps = andThen (horizonCheck h) (listsCheck h rs ds ps)
+
+-- the same of a list, as planner, judge and list writer are lent it
+abbrev pub checkOf : Jobs → Checked
+checkOf J = listCheck (J .horizon) (J .releases) (J .deadlines) (J .volumes)

@@ -1,4 +1,4 @@
--- 01, "Words of the plan" (000, section 1.1): runs and energy. Each is counted slot by slot from the state before the first one.
+-- 01, "Words of the plan" (000, section 1.1): awake slots, runs, wakes and energy of a set of slots, and the figures of a table.
 use Prim.Native.Nat.{ℕ, suc, _+_, _*_}
 use mathlib.Core.Bool.{Bool, true, false}
 use mathlib.Core.List.{List, [], _∷_}
@@ -20,18 +20,18 @@ runsFrom b (false ∷ S) = runsFrom false S
 runsFrom true (true ∷ S) = runsFrom true S
 runsFrom false (true ∷ S) = suc (runsFrom true S)
 
--- "Before slot 0 the processor sleeps."
-abbrev pub start : Jobs → Bool
-start J = false
+abbrev pub runs : List Bool → ℕ
+runs S = runsFrom false S
 
-abbrev pub runs : Jobs → List Bool → ℕ
-runs J S = runsFrom (start J) S
+-- The wakes that are paid: one for each run, but none for a run at slot 0 if the processor is awake before it.
+abbrev pub wakes : Jobs → List Bool → ℕ
+wakes J S = runsFrom (J .start) S
 
--- "Energy is the number of awake slots plus q times the number of runs"
+-- "Energy is the number of awake slots plus q times the number of runs"; with a start asleep each run is one wake
 abbrev pub energy : Jobs → List Bool → ℕ
-energy J S = awakeSlots S + J .wake * runs J S
+energy J S = awakeSlots S + J .wake * wakes J S
 
 -- "energy, awake slots and runs" of a table
 abbrev pub tableFigures : Jobs → List ℕ → Figures
 tableFigures J table =
-    record { energy = energy J (awakeOf table); awake = awakeSlots (awakeOf table); runs = runs J (awakeOf table) }
+    record { energy = energy J (awakeOf table); awake = awakeSlots (awakeOf table); runs = runs (awakeOf table) }

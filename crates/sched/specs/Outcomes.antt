@@ -1,24 +1,20 @@
 -- 01, "From list to table" and "Refused, and where": the planner's answer and what a lent table holds afterwards, for every input; and the
 -- number and the values that 01 gives each case of the answer.
 use Prim.Native.Nat.{ℕ}
-use mathlib.Core.Bool.{Bool, true, false}
 use mathlib.Core.List.{List, [], _∷_, _++_}
 use mathlib.Core.Option.{Option, none, some}
 use lib.ListN.{length, drop}
-use lib.Dec.{ltb}
 use Rattle.sched.specs.Jobs.{Jobs}
 use Rattle.sched.specs.Refusals.{number, place}
-use Rattle.sched.specs.Checks.{listCheck}
+use Rattle.sched.specs.Checks.{andThen, lengthCheck, checkOf}
 use Rattle.sched.specs.Slots.{awakeOf}
 use Rattle.sched.specs.Energy.{awakeSlots, runs, energy}
 use Rattle.sched.specs.Overload.{shownOverload}
 use Rattle.sched.specs.Skeleton.{leastSkeleton}
-use Rattle.sched.specs.Steps.{woken, extended, tableOf}
-use Rattle.sched.specs.declared.Refusal.{Refusal}
-use Rattle.sched.specs.declared.Refusal.the-variants.{TooShort}
+use Rattle.sched.specs.Extension.{woken}
+use Rattle.sched.specs.Steps.{planTable}
 use Rattle.sched.specs.declared.Checked.the-variants.{Passed, Refused as Faulty}
 use Rattle.sched.specs.declared.PlanFigures.{PlanFigures}
-use Rattle.sched.specs.declared.Interval.{Interval}
 use Rattle.sched.specs.declared.Outcome.{Outcome}
 use Rattle.sched.specs.declared.Outcome.the-variants.{Planned, Overloaded, Refused}
 pub mod Laws
@@ -26,31 +22,36 @@ pub mod Laws
 -- "energy, awake slots, runs and added; added counts the slots woken in step 3"
 unfoldable pub figuresOf : Jobs → List ℕ → ℕ → PlanFigures
 figuresOf J table added =
-    record { energy = energy J (awakeOf table); awake = awakeSlots (awakeOf table); runs = runs J (awakeOf table); added = added }
+    record { energy = energy J (awakeOf table); awake = awakeSlots (awakeOf table); runs = runs (awakeOf table); added = added }
 
 -- the answer, and the lent table afterwards
 pub record Plan : Type 0 where
   pub answer : Outcome
   pub table : List ℕ
 
+-- What is answered before any slot is planned, the same under any planner: a refusal of the list or of a table of `have` bytes, or an
+-- overload; none if the steps can be taken.
+unfoldable pub earlyAnswer : Jobs → ℕ → Option Outcome
+earlyAnswer J have =
+    elim (andThen (checkOf J) (lengthCheck have (J .horizon))) [
+      | Faulty r ↦ some (Refused r)
+      | Passed ↦ elim (shownOverload J) [ none ↦ none | some i ↦ some (Overloaded i) ]
+    ]
+
+-- A planner is what it makes of a list that passes the checks and has no overloaded interval, and of a table that is long enough.
+unfoldable pub planBy : (Jobs → List ℕ → Plan) → Jobs → List ℕ → Plan
+planBy steps J lent =
+    elim (earlyAnswer J (length lent)) [ some answer ↦ record { answer = answer; table = lent } | none ↦ steps J lent ]
+
 -- steps 2 to 5: "The table goes to the first H bytes of the lent buffer, and later bytes keep their values."
 unfoldable pub planned : Jobs → List ℕ → Plan
 planned J lent =
-    let table = tableOf J (extended J) in
+    let table = planTable J in
     record { answer = Planned (figuresOf J table (length (woken J (leastSkeleton J)))); table = table ++ drop (J .horizon) lent }
 
--- step 1, 17 before it
-unfoldable pub stepOne : Jobs → List ℕ → Plan
-stepOne J lent =
-    elim (shownOverload J) [ none ↦ planned J lent | some i ↦ record { answer = Overloaded i; table = lent } ]
-
+-- the plan of 01
 unfoldable pub plan : Jobs → List ℕ → Plan
-plan J lent =
-    elim (listCheck (J .horizon) (J .releases) (J .deadlines) (J .volumes)) [
-      | Faulty r ↦ record { answer = Refused r; table = lent }
-      | Passed ↦ elim (ltb (length lent) (J .horizon))
-          [ true ↦ record { answer = Refused (TooShort (J .horizon)); table = lent } | false ↦ stepOne J lent ]
-    ]
+plan J lent = planBy planned J lent
 
 -- planned is 0, overloaded 18, a refusal its own number
 abbrev pub outcomeNumber : Outcome → ℕ

@@ -1,5 +1,5 @@
 -- 01, "Words of the plan": overloaded intervals, and the one that is shown.
-use Prim.Native.Nat.{ℕ, _-_}
+use Prim.Native.Nat.{ℕ, _-_, _≤_, _<_}
 use mathlib.Core.Bool.{Bool, true, false, _&&_}
 use mathlib.Core.Option.{Option, none, some}
 use lib.Dec.{leb, ltb}
@@ -28,3 +28,17 @@ overloadEndingAt J b =
 unfoldable pub shownOverload : Jobs → Option Interval
 shownOverload J =
     elim (leastFrom (J .horizon) 1 (λ b. anyBelow b (λ a. overloaded J a b))) [ none ↦ none | some b ↦ overloadEndingAt J b ]
+
+-- The same in words, for promises to name
+
+-- "the jobs with a ≤ r and d ≤ b (and 0 ≤ a < b ≤ H) have more volume together than b−a"
+pub record Overfull (J : Jobs) (a b : ℕ) : Type 0 where
+  pub span : a < b
+  pub within : b ≤ J .horizon
+  pub more : b - a < volumeInside J a b
+
+-- i is overloaded, no overloaded interval ends earlier, and none that ends with it starts later
+pub record Shown (J : Jobs) (i : Interval) : Type 0 where
+  pub over : Overfull J (i .a) (i .b)
+  pub least : (a b : ℕ) → Overfull J a b → i .b ≤ b
+  pub greatest : (a : ℕ) → Overfull J a (i .b) → a ≤ i .a

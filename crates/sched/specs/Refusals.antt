@@ -2,6 +2,7 @@
 use Prim.Native.Nat.{ℕ}
 use Rattle.sched.specs.declared.Refusal.{Refusal}
 use Rattle.sched.specs.declared.Refusal.the-variants.{Truncated, OutOfRange, UnknownBit, Redundant, BadJob, LeftOver, TooShort, Unequal, BadByte, TooOften, OutOfSpan, TooRare}
+pub mod Laws
 
 abbrev pub number : Refusal → ℕ
 number (Truncated at) = 11

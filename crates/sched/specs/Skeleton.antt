@@ -1,7 +1,9 @@
--- 01, "Words of the plan" and step 2 (000, section 2: skeletons): which sets are skeletons, and the least one.
-use Prim.Native.Nat.{ℕ, suc}
-use mathlib.Core.Bool.{Bool, _&&_}
+-- 01, "Words of the plan" and step 2 (000, section 1.1: skeletons): which sets are skeletons, and the least one.
+use Prim.Native.Nat.{ℕ, suc, _≤_}
+use mathlib.Core.Path.{_≡_}
+use mathlib.Core.Bool.{Bool, true, false, _&&_}
 use mathlib.Core.List.{List, [], _∷_}
+use lib.ListN.{length}
 use lib.Dec.{leb}
 use Rattle.sched.specs.Bounded.{anyBelow, allBelow, keep, firstLeast}
 use Rattle.sched.specs.Jobs.{Jobs, count, release, deadline}
@@ -27,3 +29,22 @@ leastOf J (S ∷ rest) = firstLeast (energy J) S rest
 -- "the skeleton of least energy. Among equals take the one that, at the first slot where two differ, is asleep."
 unfoldable pub leastSkeleton : Jobs → List Bool
 leastSkeleton J = leastOf J (skeletons J)
+
+-- The same in words, for theorems to name
+
+-- the sets have as many slots and are the same, or differ, and the first sleeps where they first differ
+abbrev pub Precedes : List Bool → List Bool → Type 0
+Precedes [] [] = Unit {0}
+Precedes [] (y ∷ R) = ⊥
+Precedes (x ∷ S) [] = ⊥
+Precedes (false ∷ S) (false ∷ R) = Precedes S R
+Precedes (false ∷ S) (true ∷ R) = Unit {0}
+Precedes (true ∷ S) (false ∷ R) = ⊥
+Precedes (true ∷ S) (true ∷ R) = Precedes S R
+
+-- "the skeleton of least energy", and among equals the first
+pub record Least (J : Jobs) (B : List Bool) : Type 0 where
+  pub long : length B ≡ J .horizon
+  pub skeleton : isSkeleton J B ≡ true
+  pub cheapest : (S : List Bool) → length S ≡ J .horizon → isSkeleton J S ≡ true → energy J B ≤ energy J S
+  pub first : (S : List Bool) → length S ≡ J .horizon → isSkeleton J S ≡ true → energy J S ≡ energy J B → Precedes B S

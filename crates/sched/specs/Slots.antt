@@ -35,6 +35,11 @@ abbrev pub awakeBefore : List Bool → ℕ → Bool
 awakeBefore S zero = false
 awakeBefore S (suc t) = awake S t
 
+-- the state after the slots of a set, from the state before them
+abbrev pub stateAfter : Bool → List Bool → Bool
+stateAfter b [] = b
+stateAfter b (c ∷ S) = stateAfter c S
+
 -- "it lies next to an awake slot"
 abbrev pub touches : List Bool → ℕ → Bool
 touches S t = awakeBefore S t || awake S (suc t)

@@ -44,6 +44,6 @@ mostFrom J t left (true ∷ S) =
     max (mostFrom J (suc t) left S)
     (maxBelow (count J) (λ j. elim (placeable J t left j) [ true ↦ suc (mostFrom J (suc t) (lower left j) S) | false ↦ 0 ]))
 
--- The workable volume, by trying every placement. That it is `Greatest` is `workable-greatest` of the crate `edf`.
+-- The workable volume, by trying every placement. That it is `Greatest` is `workable-greatest` of the crate `laws_edf`.
 unfoldable pub workable : Jobs → List Bool → ℕ
 workable J S = mostFrom J 0 (J .volumes) S

@@ -1,12 +1,18 @@
-// What the other crates share: the words of the plan, refusals and figures among them, the list checks, and a copy.
+// What the other crates share: the words of the plan, refusals and figures among them, the checks that several of them make, and a copy.
 ghost use mathlib.Core.Path.{_≡_};
 ghost use mathlib.Core.List.{_++_};
 ghost use Rattle.sched.specs.Refusals.{number, place};
-ghost use Prim.Native.Nat.{_≤_};
+ghost use mathlib.Core.Bool.{false};
+ghost use Prim.Native.Nat.{_-_, _≤_};
 ghost use lib.ListN.{length, take, drop};
 ghost use Rattle.sched.specs.Jobs.{Jobs};
 ghost use Rattle.sched.specs.Energy.{tableFigures};
-ghost use Rattle.sched.specs.Checks.{jobCheck, jobsCheck, listCheck};
+ghost use Rattle.sched.specs.Checks.{horizonCheck, lengthCheck, tableCheck, bytesFrom, slotsCheck, jobCheck, jobsCheck, countCheck, listsCheck, listCheck};
+
+// The bytes of a table that are no job numbers.
+pub const IDLE: u8 = 254;
+
+pub const ASLEEP: u8 = 255;
 
 // One case for each row of the refusal table that is no overload; each holds its place.
 pub enum Refusal {
@@ -110,6 +116,77 @@ impl Refusal {
     }
 }
 
+// 12 for a horizon.
+pub fn check_horizon(h: u16) -> Checked
+    ensures { λ c. ⌜ c ≡ horizonCheck h ⌝ }
+{
+    if h == 0 {
+        return Checked::Refused(Refusal::OutOfRange(0));
+    }
+    if 4096 < h {
+        return Checked::Refused(Refusal::OutOfRange(0));
+    }
+    Checked::Passed
+}
+
+// 12 for a number of jobs.
+pub fn check_count(n: usize) -> Checked
+    ensures { λ c. ⌜ c ≡ countCheck n ⌝ }
+{
+    if 64 < n {
+        return Checked::Refused(Refusal::OutOfRange(4));
+    }
+    Checked::Passed
+}
+
+// 17 for what is lent.
+pub fn check_length(have: usize, need: usize) -> Checked
+    ensures { λ c. ⌜ c ≡ lengthCheck have need ⌝ }
+{
+    if have < need {
+        return Checked::Refused(Refusal::TooShort(need));
+    }
+    Checked::Passed
+}
+
+// 12 and 17 for a table that comes without a list.
+pub fn check_table(h: u16, have: usize) -> Checked
+    ensures { λ c. ⌜ c ≡ tableCheck h have ⌝ }
+{
+    match check_horizon(h) {
+        Checked::Passed => check_length(have, h as usize),
+        Checked::Refused(r) => Checked::Refused(r),
+    }
+}
+
+// 21 for the slots from one up to but without another, in a table that comes without a list.
+pub fn check_bytes(table: &[u8], from: usize, to: usize) -> Checked
+    requires { ⌜ (from ≤ to) × (to ≤ length (now table)) ⌝ }
+    ensures { λ c. ⌜ c ≡ bytesFrom (to - from) from (now (table .entry)) ⌝ }
+{
+    let mut t = from;
+    while t < to {
+        if table[t] < 64 {
+            t += 1;
+        } else if 253 < table[t] {
+            t += 1;
+        } else {
+            return Checked::Refused(Refusal::BadByte(t));
+        }
+    }
+    Checked::Passed
+}
+
+// 12, 17 and 21 for a table that comes without a list.
+pub fn check_slots(h: u16, table: &[u8]) -> Checked
+    ensures { λ c. ⌜ c ≡ slotsCheck h (now (table .entry)) ⌝ }
+{
+    match check_table(h, table.len()) {
+        Checked::Passed => check_bytes(table, 0, h as usize),
+        Checked::Refused(r) => Checked::Refused(r),
+    }
+}
+
 // The check of one job; the list reader makes it too, at the job that it has just read.
 pub fn check_job(h: u16, job: usize, r: u16, d: u16, p: u16) -> Checked
     ensures { λ c. ⌜ c ≡ jobCheck h job r d p ⌝ }
@@ -145,39 +222,43 @@ fn check_jobs(h: u16, releases: &[u16], deadlines: &[u16], volumes: &[u16]) -> C
     Checked::Passed
 }
 
-// The list checks, in the order in which planner, judge and list writer make them.
-pub fn check_list(h: u16, releases: &[u16], deadlines: &[u16], volumes: &[u16]) -> Checked
-    ensures { λ c. ⌜ c ≡ listCheck h (now (releases .entry)) (now (deadlines .entry)) (now (volumes .entry)) ⌝ }
+// The list checks behind 12 for H.
+fn check_lists(h: u16, releases: &[u16], deadlines: &[u16], volumes: &[u16]) -> Checked
+    ensures { λ c. ⌜ c ≡ listsCheck h (now (releases .entry)) (now (deadlines .entry)) (now (volumes .entry)) ⌝ }
 {
-    if h == 0 {
-        return Checked::Refused(Refusal::OutOfRange(0));
-    }
-    if 4096 < h {
-        return Checked::Refused(Refusal::OutOfRange(0));
-    }
     if deadlines.len() != releases.len() {
         return Checked::Refused(Refusal::Unequal(0));
     }
     if volumes.len() != releases.len() {
         return Checked::Refused(Refusal::Unequal(0));
     }
-    if 64 < releases.len() {
-        return Checked::Refused(Refusal::OutOfRange(4));
+    match check_count(releases.len()) {
+        Checked::Passed => check_jobs(h, releases, deadlines, volumes),
+        Checked::Refused(r) => Checked::Refused(r),
     }
-    check_jobs(h, releases, deadlines, volumes)
+}
+
+// The list checks, in the order in which planner, judge and list writer make them.
+pub fn check_list(h: u16, releases: &[u16], deadlines: &[u16], volumes: &[u16]) -> Checked
+    ensures { λ c. ⌜ c ≡ listCheck h (now (releases .entry)) (now (deadlines .entry)) (now (volumes .entry)) ⌝ }
+{
+    match check_horizon(h) {
+        Checked::Passed => check_lists(h, releases, deadlines, volumes),
+        Checked::Refused(r) => Checked::Refused(r),
+    }
 }
 
 // What a table of at most 4,096 bytes costs; the processor sleeps before slot 0.
 pub fn cost_of(q: u16, table: &[u8]) -> Figures
     requires { ⌜ length (now table) ≤ 4096 ⌝ }
-    ensures { λ f. ⌜ ((J : Jobs) → J .wake ≡ q → f ≡ tableFigures J (now (table .entry))) ⌝ }
+    ensures { λ f. ⌜ ((J : Jobs) → J .wake ≡ q → J .start ≡ false → f ≡ tableFigures J (now (table .entry))) ⌝ }
 {
     let mut awake: u32 = 0;
     let mut runs: u32 = 0;
     let mut on = false;
     let mut t = 0;
     while t < table.len() {
-        if table[t] == 255 {
+        if table[t] == ASLEEP {
             on = false;
             t += 1;
         } else if on {

@@ -1,6 +1,7 @@
 -- From what the reader, the planner and the block's functions promise to what the entry promises, return by return.
 use Prim.Native.Nat.{ℕ, _≤_, _<_}
 use mathlib.Core.Path.{_≡_, sym, ap, subst, _∙_}
+use mathlib.Core.Bool.{false}
 use mathlib.Core.List.{List, [], _∷_}
 use native.Mathlib.Omega.{arith}
 use lib.ListN.{length, getD, take, drop}
@@ -11,29 +12,25 @@ use Rattle.sched.specs.Outcomes.{plan, outcomeNumber, outcomeValues}
 use Rattle.sched.specs.declared.Refusal.{Refusal}
 use Rattle.sched.specs.declared.Checked.the-variants.{Passed, Refused as Faulty}
 use Rattle.sched.specs.declared.Outcome.{Outcome}
-use Rattle.laws_rivals.specs.Rivals as demands
+use Rattle.laws_rivals.specs.Rivals.{AgainstRivals, asOutcome}
 use Rattle.joblist.specs.Reading.{listOf}
 use Rattle.sched.specs.Checks.Laws.{refused-not-passed}
 use Rattle.sleep_plan.specs.Block.{blockLength, answered, numberIn}
 use Rattle.sleep_plan.specs.Block.Laws.{one-number}
 use Rattle.sleep_plan.specs.Puts.{Puts, PutsOutcome}
 use Rattle.sleep_plan.specs.Entry.{Answer, bytesCheck, Entry, inBlock}
-use Rattle.sleep_plan.specs.Entry.Places.{Within, read-within}
-use Rattle.joblist.specs.Bytes.{spelling}
-use Rattle.joblist.specs.Laws.Fields.{AreBytes}
-use Rattle.joblist.specs.Laws.Input.{read-passed, read-passes}
-use Rattle.joblist.specs.Laws.Lists.{list-passes, list-back, spelling-good}
+use Rattle.joblist.specs.Bytes.{AreBytes, spelling}
+use Rattle.joblist.specs.Theorems.{spelling-read, spelling-list, read-list-passes, place-small}
 use Rattle.sleep_plan.specs.Entry.Laws.{entry-short, entry-answers, answer-refused, answer-planned}
-use Rattle.sleep_plan.specs.Promises.{AgainstRivals, Promise}
+use Rattle.sleep_plan.specs.Promises.{asCall, Promise}
 use Rattle.sleep_plan.proofs.Answers.{plan-fits, outcome-numbers, against}
 
 -- the bytes of a list that passes the list checks are read, to that list
 spelled-reads : (J : Jobs) (list : List ℕ) → Passes J → list ≡ spelling J → bytesCheck list ≡ Passed
-spelled-reads J list p e =
-    rw e (read-passes (spelling J) 64 64 64 (spelling-good J 64 64 64 p (record { releases = p .few; deadlines = p .few; volumes = p .few })))
+spelled-reads J list p e = rw e (spelling-read J 64 64 64 p (record { releases = p .few; deadlines = p .few; volumes = p .few }))
 
-spelled-is : (J : Jobs) (list : List ℕ) → Passes J → list ≡ spelling J → listOf list ≡ J
-spelled-is J list p e = ap listOf e ∙ list-back J p
+spelled-is : (J : Jobs) (list : List ℕ) → J .start ≡ false → Passes J → list ≡ spelling J → listOf list ≡ J
+spelled-is J list asleep p e = ap listOf e ∙ spelling-list J asleep p
 
 -- a short block
 pub promise-short : (list table block : List ℕ) → length block < blockLength → Promise list table block 17 table block
@@ -44,7 +41,7 @@ promise-short list table block l =
       table = ap (λ (x : Entry). x .table) e;
       block = ap (λ (x : Entry). x .block) e;
       numbers = λ m i k. absurd (omega arith);
-      rivals = λ J p e h m. absurd (omega arith);
+      rivals = λ J z p e h m. absurd (omega arith);
       rivals-of-bytes = λ p h m. absurd (omega arith);
     }
 
@@ -53,7 +50,7 @@ pub promise-refused : (list table block block′ : List ℕ) (n : ℕ) (r : Refu
 promise-refused list table block block′ n r l f puts =
     let a = answer-refused list table r f in
     let e = sym (entry-answers list table block l ∙ ap (λ (x : Answer). inBlock x block) a) in
-    let within : place r ≤ 524 = subst (Within 524) f (read-within list 64 64 64) in
+    let within : place r ≤ 453 = place-small list 64 64 64 r f in
     record {
       returned = puts .returned ∙ ap (λ (x : Entry). x .number) e;
       table = ap (λ (x : Entry). x .table) e;
@@ -62,33 +59,33 @@ promise-refused list table block block′ n r l f puts =
           ap (λ (b : List ℕ). numberIn b i) (puts .block)
           ∙ one-number (place r) (drop blockLength block) (omega arith) i k
           ∙ ap (λ (x : Answer). getD (x .values) i 0) (sym a);
-      rivals = λ J p e h m. refused-not-passed r (sym f ∙ spelled-reads J list p e);
+      rivals = λ J z p e h m. refused-not-passed r (sym f ∙ spelled-reads J list p e);
       rivals-of-bytes = λ p h m. refused-not-passed r (sym f ∙ p);
     }
 
 -- a list that was read; J is what the planner was handed
-pub promise-planned : (list table block table′ block′ : List ℕ) (n : ℕ) (o : Outcome) (J : Jobs) → AreBytes list → blockLength ≤ length block → bytesCheck list ≡ Passed → J ≡ listOf list → o ≡ plan J table .answer → table′ ≡ plan J table .table → (Passes J → J .horizon ≤ length table → demands.AgainstRivals J o (take (J .horizon) table′)) → PutsOutcome o block n block′ → Promise list table block n table′ block′
+pub promise-planned : (list table block table′ block′ : List ℕ) (n : ℕ) (o : Outcome) (J : Jobs) → AreBytes list → blockLength ≤ length block → bytesCheck list ≡ Passed → J ≡ listOf list → o ≡ plan J table .answer → table′ ≡ plan J table .table → (Passes J → J .horizon ≤ length table → AgainstRivals J (asOutcome o) (take (J .horizon) table′)) → PutsOutcome o block n block′ → Promise list table block n table′ block′
 promise-planned list table block table′ block′ n o J small l p same told kept rivals puts =
     let K = listOf list in
-    let passes = list-passes list 64 64 64 small (read-passed list 64 64 64 p) in
+    let passes = read-list-passes list 64 64 64 small p in
     let t : o ≡ plan K table .answer = told ∙ ap (λ (x : Jobs). plan x table .answer) same in
     let k : table′ ≡ plan K table .table = kept ∙ ap (λ (x : Jobs). plan x table .table) same in
-    let ours : Passes K → K .horizon ≤ length table → demands.AgainstRivals K o (take (K .horizon) table′) =
-    subst (λ (x : Jobs). Passes x → x .horizon ≤ length table → demands.AgainstRivals x o (take (x .horizon) table′)) same rivals in
+    let ours : Passes K → K .horizon ≤ length table → AgainstRivals K (asOutcome o) (take (K .horizon) table′) =
+    subst (λ (x : Jobs). Passes x → x .horizon ≤ length table → AgainstRivals x (asOutcome o) (take (x .horizon) table′)) same rivals in
     let a = answer-planned list table p in
     let e = sym (entry-answers list table block l ∙ ap (λ (x : Answer). inBlock x block) a) in
     let fits = plan-fits K passes table table′ o t (ours passes) (puts .fits) in
     let back : (i : ℕ) → i < 4 → numberIn block′ i ≡ getD (outcomeValues o) i 0 =
     (λ i b. ap (λ (x : List ℕ). numberIn x i) (puts .puts .block) ∙ outcome-numbers o (drop blockLength block) fits i b) in
-    let held : K .horizon ≤ length table → AgainstRivals K n (take (K .horizon) table′) block′ =
+    let held : K .horizon ≤ length table → AgainstRivals K (asCall n block′) (take (K .horizon) table′) =
     (λ h. against K o (take (K .horizon) table′) block block′ n (ours passes h) (puts .puts) back) in
     record {
       returned = puts .puts .returned ∙ ap outcomeNumber t ∙ ap (λ (x : Entry). x .number) e;
       table = k ∙ ap (λ (x : Entry). x .table) e;
       block = puts .puts .block ∙ ap (λ (x : Outcome). answered (outcomeValues x) block) t ∙ ap (λ (x : Entry). x .block) e;
       numbers = λ m i b. back i b ∙ ap (λ (x : Outcome). getD (outcomeValues x) i 0) t ∙ ap (λ (x : Answer). getD (x .values) i 0) (sym a);
-      rivals = λ L q s h m.
-          let is : K ≡ L = spelled-is L list q s in
-          subst (λ (x : Jobs). x .horizon ≤ length table → AgainstRivals x n (take (x .horizon) table′) block′) is held h;
+      rivals = λ L z q s h m.
+          let is : K ≡ L = spelled-is L list z q s in
+          subst (λ (x : Jobs). x .horizon ≤ length table → AgainstRivals x (asCall n block′) (take (x .horizon) table′)) is held h;
       rivals-of-bytes = λ _ h m. held h;
     }

@@ -10,7 +10,6 @@ use Rattle.sched.specs.declared.Checked.{Checked}
 use Rattle.sched.specs.declared.Checked.the-variants.{Passed, Refused as Faulty}
 use Rattle.joblist.specs.Reading.{readCheck, listOf}
 use Rattle.sleep_plan.specs.Block.{blockLength, answered}
-pub mod Places
 pub mod Laws
 
 -- the number returned, the values with it, and the table afterwards
@@ -31,8 +30,8 @@ afterRead Passed list table = answerOf (plan (listOf list) table)
 abbrev pub bytesCheck : List ℕ → Checked
 bytesCheck list = readCheck list 64 64 64
 
-unfoldable pub answerTo : List ℕ → List ℕ → Answer
-answerTo list table = afterRead (bytesCheck list) list table
+unfoldable pub callAnswer : List ℕ → List ℕ → Answer
+callAnswer list table = afterRead (bytesCheck list) list table
 
 -- the number returned, and the two lent buffers afterwards
 pub record Entry : Type 0 where
@@ -48,5 +47,5 @@ unfoldable pub entry : List ℕ → List ℕ → List ℕ → Entry
 entry list table block =
     elim (ltb (length block) blockLength) [
       | true ↦ record { number = 17; table = table; block = block }
-      | false ↦ inBlock (answerTo list table) block
+      | false ↦ inBlock (callAnswer list table) block
     ]

@@ -10,55 +10,54 @@ use lib.ListN.{getD}
 use lib.Pow.{pow-mono}
 use Rattle.sched.specs.Jobs.{Jobs, count}
 use Rattle.laws_edf.specs.Search.{stateOf}
-use Rattle.queue.specs.Arrivals.{comesAt, Arriving, waits, Come}
+use Rattle.laws_edf.specs.Orders.{Sorted, releaseAt}
+use Rattle.laws_edf.specs.Orders.Laws.{places-differ}
+use Rattle.queue.specs.Arrivals.{comesAt, waits, Come}
+use Rattle.queue.specs.Runs.Reads.{reads}
 use Rattle.queue.specs.Mask.{mask}
 use Rattle.queue.specs.Mask.Laws.{mask-joins, mask-lt}
-use Rattle.step1_overload.specs.Pass.{Arrivable, Arrived, Stands, Turnable, Turned}
+use Rattle.step1_overload.specs.Pass.{never, Arrivable, Arrived, PassAt, Turned}
 use Rattle.step1_overload.proofs.Waiting.{comes-joins}
-use Rattle.step1_overload.proofs.Standing.{in-order, reachable}
 
 module _
-    (J : Jobs) (order soon left : List ℕ) (t bits next coming end : ℕ) (w : Turnable J order soon left t bits next coming end)
-    (due : coming ≤ t) where
-  s : Stands J order soon left t bits next coming end
-  s = w .stands
-
-  arriving : Arriving (J .releases) order soon
-  arriving = in-order J order soon (s .asked)
+    {J : Jobs} {ranks arrivals left : List ℕ} {t bits next coming end : ℕ} (s : PassAt J ranks arrivals left t bits next coming end)
+    (more : t < never) (now : coming ≤ t) where
+  arriving : Sorted (count J) (releaseAt (J .releases) ranks) arrivals
+  arriving = s .orders .by-release
 
   some-next : next < count J
   some-next = go (decLt next (count J))
     where
       go : Dec (next < count J) → next < count J
       go (yes l) = l
-      go (no l) = absurd (omega (arith, s .coming-is .gone (omega arith), w .more))
+      go (no l) = absurd (omega (arith, s .coming-is .gone (omega arith), more))
 
-  joined : mask (waits order soon (suc next) 0 (stateOf left)) (count J) ≡ bits + 2 ^ getD soon next 0
+  joined : mask (waits ranks arrivals (suc next) 0 (stateOf left)) (count J) ≡ bits + 2 ^ getD arrivals next 0
   joined =
-      let once : (i : ℕ) → i < next → getD soon i 0 ≢ getD soon next 0 = λ i l. arriving .once i next l some-next in
-      let j = comes-joins order soon next (count J) (stateOf left) once (s .fresh next (omega arith) some-next) in
-      omega (arith, s .came .bits-are, mask-joins (count J) _ _ (getD soon next 0) j (arriving .known next some-next))
+      let once : (i : ℕ) → i < next → getD arrivals i 0 ≢ getD arrivals next 0 = λ i l. places-differ arriving i next (omega (arith, some-next)) some-next (λ e. omega arith) in
+      let j = comes-joins ranks arrivals next (count J) (stateOf left) once (s .fresh next (omega arith) some-next) in
+      omega (arith, s .came .bits-are, mask-joins (count J) _ _ (getD arrivals next 0) j (arriving .known next some-next))
 
-  pub can-arrive : Arrivable (J .releases) order soon bits next
+  pub can-arrive : Arrivable (J .releases) ranks arrivals bits next
   can-arrive =
-      let few = s .asked .passes .few in
+      let few = s .passes .few in
       let p : 2 ^ count J ≤ 2 ^ 64 = pow-mono {i = count J} {j = 64} few in
       record {
-        reachable = reachable J order soon (s .asked);
+        reachable = record { each = reads (s .orders) };
         more = some-next;
         rank = omega (arith, arriving .known next some-next, few);
-        fits = omega (arith, joined, mask-lt (waits order soon (suc next) 0 (stateOf left)) (count J) 0);
+        fits = omega (arith, joined, mask-lt (waits ranks arrivals (suc next) 0 (stateOf left)) (count J) 0);
       }
 
-  module _ (t′ bits′ next′ coming′ end′ : ℕ) (a : Arrived (J .releases) order soon t bits next end t′ bits′ next′ coming′ end′) where
-    came : Come (J .releases) order soon left t bits′ (next + 1) 0
+  module _ (t′ bits′ next′ coming′ end′ : ℕ) (a : Arrived (J .releases) ranks arrivals t bits next end t′ bits′ next′ coming′ end′) where
+    came : Come (J .releases) ranks arrivals left t bits′ (next + 1) 0
     came = record {
       most = omega (arith, some-next);
       bits-are = rw (add-one next) (omega (arith, a .bits-are, joined));
       by-now = λ i l. go i l (ℕ-discrete i next);
     }
       where
-        go : (i : ℕ) → i < next + 1 → Dec (i ≡ next) → comesAt (J .releases) order soon i ≤ t
+        go : (i : ℕ) → i < next + 1 → Dec (i ≡ next) → comesAt (J .releases) ranks arrivals i ≤ t
         go i l (yes q) = rw q (omega (arith, s .coming-is .here some-next))
         go i l (no q) = s .came .by-now i (omega arith)
 
@@ -67,23 +66,24 @@ module _
       where
         go : Dec (next′ < count J) → t ≤ coming′
         go (yes l) =
-            let rises = arriving .rising next next′ (omega (arith, a .next-is)) l in
+            let rises = arriving .rising next next′ (omega (arith, a .next-is)) l .sooner in
             omega (arith, a .coming-is .here l, rises, s .ahead, s .coming-is .here some-next)
-        go (no l) = omega (arith, a .coming-is .gone (omega arith), w .more)
+        go (no l) = omega (arith, a .coming-is .gone (omega arith), more)
 
-    pub arrive-turn : Turned J order soon left t next coming left t′ bits′ next′ coming′ end′
+    pub arrive-turn : Turned J ranks arrivals left t next coming left t′ bits′ next′ coming′ end′
     arrive-turn = record {
-      stands = record {
-        asked = s .asked;
+      pass = record {
+        passes = s .passes;
+        orders = s .orders;
         long = s .long;
         came = rw (a .t-is, a .next-is) came;
         coming-is = a .coming-is;
         ahead = omega (arith, a .t-is, ahead);
         fresh = λ i l m. s .fresh i (omega (arith, a .next-is)) m;
         ran = rw (a .t-is, a .end-is) (s .ran);
-        small = λ l. omega (arith, a .t-is, s .small (w .more));
+        small = λ l. omega (arith, a .t-is, s .small (more));
         few = s .few;
-        done = λ l. absurd (omega (arith, a .t-is, w .more));
+        done = λ l. absurd (omega (arith, a .t-is, more));
       };
       less = omega (arith, a .t-is, a .next-is, some-next);
     }

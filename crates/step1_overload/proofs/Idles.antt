@@ -12,21 +12,21 @@ use Rattle.sched.specs.Jobs.{Jobs, count, release, volume}
 use Rattle.laws_edf.specs.Search.{stateOf}
 use Rattle.laws_edf.specs.Overload.Late.Laws.{ran-idle}
 use Rattle.queue.specs.Arrivals.{waits}
-use Rattle.step1_overload.specs.Pass.{never, Stands, Turned}
+use Rattle.step1_overload.specs.Pass.{never, PassAt, Turned}
 use Rattle.step1_overload.proofs.Waiting.{no-bit}
-use Rattle.step1_overload.proofs.Standing.{in-order, by-rank, Waits, still}
+use Rattle.step1_overload.proofs.ToCome.{Waits, still}
 
 module _
-    (J : Jobs) (order soon left : List ℕ) (t bits next coming end : ℕ) (s : Stands J order soon left t bits next coming end)
+    {J : Jobs} {ranks arrivals left : List ℕ} {t bits next coming end : ℕ} (s : PassAt J ranks arrivals left t bits next coming end)
     (later : t < coming) (empty : bits ≡ 0) where
   idle : (j : ℕ) → j < count J → 0 < getD left j 0 → coming ≤ release J j
-  idle j l u = go (still J order soon left t bits next coming end s j l u)
+  idle j l u = go (still s j l u)
     where
-      none-waits : (i : ℕ) → i < count J → waits order soon next 0 (stateOf left) i ≡ false
-      none-waits = no-bit (waits order soon next 0 (stateOf left)) (count J) bits (s .asked .passes .few) (s .came .bits-are) empty
+      none-waits : (i : ℕ) → i < count J → waits ranks arrivals next 0 (stateOf left) i ≡ false
+      none-waits = no-bit (waits ranks arrivals next 0 (stateOf left)) (count J) bits (s .passes .few) (s .came .bits-are) empty
 
-      go : Waits J order soon left next j ⊎ (coming ≤ release J j) → coming ≤ release J j
-      go (inl h) = true-not-false (waits order soon next 0 (stateOf left) (h .rank)) (h .now) (none-waits (h .rank) (h .below))
+      go : Waits J ranks arrivals left next j ⊎ (coming ≤ release J j) → coming ≤ release J j
+      go (inl h) = true-not-false (waits ranks arrivals next 0 (stateOf left) (h .rank)) (h .now) (none-waits (h .rank) (h .below))
       go (inr h) = h
 
   some-comes : coming < never → coming ≤ J .horizon
@@ -34,8 +34,8 @@ module _
     where
       go : Dec (next < count J) → coming ≤ J .horizon
       go (yes m) =
-          let j = by-rank J order soon (s .asked) .known _ (in-order J order soon (s .asked) .known next m) in
-          let g = s .asked .passes .good _ j in
+          let j = s .orders .by-deadline .known _ (s .orders .by-release .known next m) in
+          let g = s .passes .good _ j in
           omega (arith, s .coming-is .here m, g .span, g .within)
       go (no m) = absurd (omega (arith, s .coming-is .gone (omega arith)))
 
@@ -45,13 +45,14 @@ module _
       go : Dec (getD left j 0 ≡ 0) → getD left j 0 ≡ 0
       go (yes z) = z
       go (no z) =
-          let g = s .asked .passes .good j m in
-          absurd (omega (arith, idle j m (omega arith), g .span, g .within, s .asked .passes .high))
+          let g = s .passes .good j m in
+          absurd (omega (arith, idle j m (omega arith), g .span, g .within, s .passes .high))
 
-  pub idle-turn : Turned J order soon left t next coming left coming 0 next coming end
+  pub idle-turn : Turned J ranks arrivals left t next coming left coming 0 next coming end
   idle-turn = record {
-    stands = record {
-      asked = s .asked;
+    pass = record {
+      passes = s .passes;
+      orders = s .orders;
       long = s .long;
       came = record {
         most = s .came .most;

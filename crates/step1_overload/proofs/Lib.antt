@@ -1,9 +1,10 @@
 pub mod Starts
 pub mod Visiting
 pub mod Waiting
-pub mod Standing
+pub mod ToCome
 pub mod Comes
 pub mod Idles
 pub mod Serves
+pub mod Turning
 pub mod Passing
 pub mod Showing

@@ -5,11 +5,11 @@ use mathlib.Core.List.{List, [], _∷_, map, map-append, reverse, reverse-append
 use mathlib.Core.Option.{some}
 use native.Mathlib.Omega.{arith}
 use borrow.Author.Tests.{lt-leb, le-leb, lt-ltb, le-ltb}
-use lib.ListN.{length, take}
+use lib.ListN.{length, getD, take}
 use lib.Seq.{take-suc}
 use Rattle.sched.specs.Jobs.{Jobs, release, deadline, volume}
 use Rattle.laws_edf.specs.Overload.Search.{startFor}
-use Rattle.orders.specs.Order.{keyOf}
+use Rattle.laws_edf.specs.Orders.{jobAt}
 use Rattle.step1_overload.specs.Search.{falling}
 
 module _ (J : Jobs) (b j : ℕ) (js : List ℕ) (sum : ℕ) where
@@ -27,12 +27,12 @@ module _ (J : Jobs) (b j : ℕ) (js : List ℕ) (sum : ℕ) where
 
 -- the last of the first ranks by release is the next to be visited
 pub next-falling :
-    (order soon : List ℕ) (at : ℕ) → 0 < at → at ≤ length soon →
-    falling order (take at soon) ≡ keyOf order (keyOf soon (at - 1)) ∷ falling order (take (at - 1) soon)
-next-falling order soon at p m =
+    (ranks arrivals : List ℕ) (at : ℕ) → 0 < at → at ≤ length arrivals →
+    falling ranks (take at arrivals) ≡ jobAt ranks (getD arrivals (at - 1) 0) ∷ falling ranks (take (at - 1) arrivals)
+next-falling ranks arrivals at p m =
     let up : suc (at - 1) ≡ at = omega arith in
-    let last = keyOf soon (at - 1) in
-    ap (λ (i : ℕ). falling order (take i soon)) (sym up)
-    ∙ ap (falling order) (take-suc soon (at - 1) 0 (omega arith))
-    ∙ ap reverse (map-append (keyOf order) (take (at - 1) soon) (last ∷ []))
-    ∙ reverse-append (map (keyOf order) (take (at - 1) soon)) (keyOf order last ∷ [])
+    let last = getD arrivals (at - 1) 0 in
+    ap (λ (i : ℕ). falling ranks (take i arrivals)) (sym up)
+    ∙ ap (falling ranks) (take-suc arrivals (at - 1) 0 (omega arith))
+    ∙ ap reverse (map-append (jobAt ranks) (take (at - 1) arrivals) (last ∷ []))
+    ∙ reverse-append (map (jobAt ranks) (take (at - 1) arrivals)) (jobAt ranks last ∷ [])

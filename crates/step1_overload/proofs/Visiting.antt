@@ -3,90 +3,107 @@ use Prim.Native.Nat.{ℕ, _+_, _-_, _*_, _≤_, _<_}
 use mathlib.Core.Path.{_≡_, sym, ap, _∙_}
 use mathlib.Core.List.{List, _∷_}
 use native.Mathlib.Omega.{arith}
-use lib.ListN.{length, take}
+use lib.ListN.{length, getD, take}
 use lib.Seq.{take-length}
-use Rattle.sched.specs.Jobs.{Jobs, count, release, deadline, volume}
+use Rattle.sched.specs.Jobs.{Jobs}
+use Rattle.laws_edf.specs.Orders.{jobAt}
 use Rattle.laws_edf.specs.Overload.Search.{startFor, startOr}
-use Rattle.orders.specs.Order.{keyOf}
-use Rattle.orders.specs.Order.Both.{ranks-long, ranked-jobs, in-arrival}
-use Rattle.step1_overload.specs.Search.{falling, Asked}
+use Rattle.orders.specs.Lists.{ListsOf, release-is, deadline-is, volume-is}
+use Rattle.step1_overload.specs.Search.{falling, Asked, StartFor}
 use Rattle.step1_overload.proofs.Starts.{start-late, start-found, start-next, next-falling}
 
 -- the first `at` ranks by release are still to be visited
-pub record Visiting (J : Jobs) (b : ℕ) (order soon : List ℕ) (sum at : ℕ) : Type 0 where
-  pub asked : Asked J order soon
-  pub within : at ≤ length soon
-  pub small : sum ≤ 65535 * (length soon - at)
-  pub rest : startFor J b (falling order soon) 0 ≡ startFor J b (falling order (take at soon)) sum
+pub record Visiting (releases deadlines volumes : List ℕ) (b : ℕ) (ranks arrivals : List ℕ) (sum at : ℕ) : Type 0 where
+  pub asked : Asked releases deadlines volumes ranks arrivals
+  pub within : at ≤ length arrivals
+  pub small : sum ≤ 65535 * (length arrivals - at)
+  pub rest :
+      (J : Jobs) → ListsOf J releases deadlines volumes →
+      startFor J b (falling ranks arrivals) 0 ≡ startFor J b (falling ranks (take at arrivals)) sum
 
-module _ (J : Jobs) (b : ℕ) (order soon : List ℕ) where
-  pub visit-start : Asked J order soon → Visiting J b order soon 0 (length soon)
-  visit-start r =
-      record {
-        asked = r;
-        within = omega arith;
-        small = omega arith;
-        rest = ap (λ (l : List ℕ). startFor J b (falling order l) 0) (sym (take-length soon));
-      }
+pub visit-start :
+    {releases deadlines volumes ranks arrivals : List ℕ} {b : ℕ} → Asked releases deadlines volumes ranks arrivals →
+    Visiting releases deadlines volumes b ranks arrivals 0 (length arrivals)
+visit-start {ranks = ranks} {arrivals = arrivals} {b = b} a =
+    record {
+      asked = a;
+      within = omega arith;
+      small = omega arith;
+      rest = λ J p. ap (λ (l : List ℕ). startFor J b (falling ranks l) 0) (sym (take-length arrivals));
+    }
 
-  module _ (sum at : ℕ) (v : Visiting J b order soon sum at) where
-    long : length soon ≡ count J
-    long = in-arrival J order soon (v .asked .passes) (v .asked .orders) .long
+module _
+    {releases deadlines volumes ranks arrivals : List ℕ} {b sum at : ℕ} (v : Visiting releases deadlines volumes b ranks arrivals sum at) where
+  -- the sum stays small
+  pub visit-sum : sum ≤ 4194240
+  visit-sum =
+      let p = v .asked .lists in
+      omega (arith, v .small, v .within, v .asked .orders .by-release .long, p .passes .few, ap length (p .releases-are))
 
-    -- the sum stays small
-    pub visit-sum : sum ≤ 4194240
-    visit-sum = omega (arith, v .small, v .within, long, v .asked .passes .few)
+  pub visit-end : at ≤ 0 → StartFor b releases deadlines volumes ranks arrivals 0
+  unfolding startFor
+  visit-end m J p = let z : at ≡ 0 = omega arith in sym (ap (startOr 0) (rw z at (v .rest J p)))
 
-    pub visit-end : at ≤ 0 → 0 ≡ startOr 0 (startFor J b (falling order soon) 0)
-    unfolding startFor
-    visit-end m = let z : at ≡ 0 = omega arith in sym (ap (startOr 0) (rw z at (v .rest)))
+  module _ (more : 0 < at) where
+    abbrev job : ℕ
+    job = jobAt ranks (getD arrivals (at - 1) 0)
 
-    module _ (more : 0 < at) where
-      abbrev job : ℕ
-      job = keyOf order (keyOf soon (at - 1))
+    rank-known : getD arrivals (at - 1) 0 < length releases
+    rank-known = v .asked .orders .by-release .known (at - 1) (omega (arith, v .within, v .asked .orders .by-release .long))
 
-      rank-known : keyOf soon (at - 1) < count J
-      rank-known = in-arrival J order soon (v .asked .passes) (v .asked .orders) .known (at - 1) (omega (arith, v .within, long))
+    pub visit-rank : getD arrivals (at - 1) 0 < length ranks
+    visit-rank = omega (arith, rank-known, v .asked .orders .by-deadline .long)
 
-      pub visit-rank : keyOf soon (at - 1) < length order
-      visit-rank = omega (arith, rank-known, ranks-long J order soon (v .asked .passes) (v .asked .orders))
+    pub visit-known : job < length releases
+    visit-known = v .asked .orders .by-deadline .known (getD arrivals (at - 1) 0) rank-known
 
-      pub visit-known : job < length (J .releases)
-      visit-known = ranked-jobs J order soon (v .asked .passes) (v .asked .orders) .known (keyOf soon (at - 1)) rank-known
+    pub visit-deadline : job < length deadlines
+    visit-deadline = omega (arith, visit-known, v .asked .orders .same)
 
-      pub visit-deadline : job < length (J .deadlines)
-      visit-deadline = omega (arith, visit-known, v .asked .passes .same-deadlines)
+    pub visit-volume : job < length volumes
+    visit-volume =
+        let p = v .asked .lists in
+        omega (arith, visit-known, p .passes .same-volumes, ap length (p .releases-are), ap length (p .volumes-are))
 
-      pub visit-volume : job < length (J .volumes)
-      visit-volume = omega (arith, visit-known, v .asked .passes .same-volumes)
+    pub visit-span : getD releases job 0 < getD deadlines job 0
+    visit-span =
+        let p = v .asked .lists in
+        omega (arith, p .passes .good job (omega (arith, visit-known, ap length (p .releases-are))) .span, release-is p job, deadline-is p job)
 
-      pub visit-span : release J job < deadline J job
-      visit-span = v .asked .passes .good job visit-known .span
+    first :
+        (J : Jobs) → ListsOf J releases deadlines volumes →
+        startFor J b (falling ranks arrivals) 0 ≡ startFor J b (job ∷ falling ranks (take (at - 1) arrivals)) sum
+    first J p = v .rest J p ∙ ap (λ (l : List ℕ). startFor J b l sum) (next-falling ranks arrivals at more (v .within))
 
-      first : startFor J b (falling order soon) 0 ≡ startFor J b (job ∷ falling order (take (at - 1) soon)) sum
-      first = v .rest ∙ ap (λ (l : List ℕ). startFor J b l sum) (next-falling order soon at more (v .within))
+    pub visit-late : b < getD deadlines job 0 → Visiting releases deadlines volumes b ranks arrivals sum (at - 1)
+    visit-late l =
+        record {
+          asked = v .asked;
+          within = omega (arith, v .within);
+          small = omega (arith, v .small, v .within);
+          rest = λ J p. first J p ∙ start-late J b job (falling ranks (take (at - 1) arrivals)) sum (omega (arith, deadline-is p job));
+        }
 
-      pub visit-late : b < deadline J job → Visiting J b order soon sum (at - 1)
-      visit-late l =
-          record {
-            asked = v .asked;
-            within = omega (arith, v .within);
-            small = omega (arith, v .small, v .within);
-            rest = first ∙ start-late J b job (falling order (take (at - 1) soon)) sum l;
-          }
+    pub visit-next :
+        getD deadlines job 0 ≤ b → getD volumes job 0 < 65536 → sum + getD volumes job 0 ≤ b - getD releases job 0 →
+        Visiting releases deadlines volumes b ranks arrivals (sum + getD volumes job 0) (at - 1)
+    visit-next l w m =
+        record {
+          asked = v .asked;
+          within = omega (arith, v .within);
+          small = omega (arith, v .small, v .within);
+          rest = λ J p.
+              first J p
+              ∙ start-next J b job (falling ranks (take (at - 1) arrivals)) sum (omega (arith, deadline-is p job))
+              (omega (arith, release-is p job, volume-is p job))
+              ∙ ap (λ (x : ℕ). startFor J b (falling ranks (take (at - 1) arrivals)) (sum + x)) (volume-is p job);
+        }
 
-      pub visit-next :
-          deadline J job ≤ b → volume J job < 65536 → sum + volume J job ≤ b - release J job →
-          Visiting J b order soon (sum + volume J job) (at - 1)
-      visit-next l w m =
-          record {
-            asked = v .asked;
-            within = omega (arith, v .within);
-            small = omega (arith, v .small, v .within);
-            rest = first ∙ start-next J b job (falling order (take (at - 1) soon)) sum l m;
-          }
-
-      pub visit-found :
-          deadline J job ≤ b → b - release J job < sum + volume J job →
-          release J job ≡ startOr 0 (startFor J b (falling order soon) 0)
-      visit-found l m = sym (ap (startOr 0) (first ∙ start-found J b job (falling order (take (at - 1) soon)) sum l m))
+    pub visit-found :
+        getD deadlines job 0 ≤ b → b - getD releases job 0 < sum + getD volumes job 0 →
+        StartFor b releases deadlines volumes ranks arrivals (getD releases job 0)
+    visit-found l m J p =
+        sym (release-is p job)
+        ∙ sym (ap (startOr 0) (first J p
+        ∙ start-found J b job (falling ranks (take (at - 1) arrivals)) sum (omega (arith, deadline-is p job))
+        (omega (arith, release-is p job, volume-is p job))))

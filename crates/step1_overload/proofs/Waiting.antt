@@ -1,68 +1,52 @@
 -- Which ranks wait: those that have come and have units left. How they change when a rank comes, and what their bits say.
 use Prim.Native.Nat.{ℕ, suc, _≤_, _<_}
 use mathlib.Core.Path.{_≡_, refl, sym, ap, subst, _∙_}
-use mathlib.Core.Bool.{Bool, true, false, _&&_, _||_, and-false}
+use mathlib.Core.Bool.{Bool, true, false, _&&_, and-false}
 use mathlib.Core.List.{List}
 use mathlib.Core.Logic.{_≢_}
 use mathlib.Core.Option.{Option, none, some}
 use native.Mathlib.Decide.{decLt}
 use native.Mathlib.Omega.{arith}
-use borrow.Author.Tests.{le-leb, lt-ltb, le-ltb, ltb-true, eq-eqb, ne-eqb, eqb-true}
+use borrow.Author.Tests.{le-leb, lt-ltb, le-ltb, ltb-true, eq-eqb, eqb-true}
 use lib.ListN.{getD}
 use lib.Dec.{leb, ltb}
 use lib.Count.{trailingZeros}
-use Rattle.sched.specs.Bounded.{anyBelow, leastFrom}
-use Rattle.sched.specs.Bounded.Laws.{true-not-false, and-true, any-intro, any-elim, any-refute, least-some, least-none}
-use Rattle.sched.specs.Jobs.{Jobs, count}
+use Rattle.sched.specs.Bounded.{leastFrom}
+use Rattle.sched.specs.Bounded.Laws.{true-not-false, and-true, any-intro, any-elim, least-some, least-none}
 use Rattle.laws_edf.specs.Run.{State}
-use Rattle.laws_extension.specs.Chain.{RankedJobs, jobAt}
+use Rattle.laws_edf.specs.Orders.{jobAt}
 use Rattle.queue.specs.Arrivals.{come, waits}
+use Rattle.queue.specs.Arrivals.Laws.{come-fresh, come-others}
 use Rattle.queue.specs.Mask.{mask}
 use Rattle.queue.specs.Mask.Laws.{Joins, zeros-some, empty-none, some-pos}
 
--- two ranks have two jobs
-pub jobs-differ : (J : Jobs) (order : List ℕ) → RankedJobs J order → (i k : ℕ) → i < count J → k < count J → i ≢ k → jobAt order i ≢ jobAt order k
-jobs-differ J order ranks i k l m n e = go (decLt i k)
-  where
-    go : Dec (i < k) → ⊥
-    go (yes a) = let s = ranks .rising i k a m in omega (arith, s .lower (rw e (omega arith)))
-    go (no a) = let s = ranks .rising k i (omega arith) l in omega (arith, s .lower (rw e (omega arith)))
-
-module _ (order soon : List ℕ) (next : ℕ) (L : State) (k : ℕ) where
-  pub waits-come : waits order soon next 0 L k ≡ true → (i : ℕ) × (i < next) × (getD soon i 0 ≡ k)
+module _ (ranks arrivals : List ℕ) (next : ℕ) (L : State) (k : ℕ) where
+  pub waits-come : waits ranks arrivals next 0 L k ≡ true → (i : ℕ) × (i < next) × (getD arrivals i 0 ≡ k)
   waits-come e =
-      let c = and-true (come soon next k && leb 0 k) (ltb 0 (L (jobAt order k))) e .0 in
-      let r = any-elim next _ (and-true (come soon next k) (leb 0 k) c .0) in
-      (r .0, r .1, eqb-true (getD soon (r .0) 0) k (r .2))
+      let c = and-true (come arrivals next k && leb 0 k) (ltb 0 (L (jobAt ranks k))) e .0 in
+      let r = any-elim next _ (and-true (come arrivals next k) (leb 0 k) c .0) in
+      (r .0, r .1, eqb-true (getD arrivals (r .0) 0) k (r .2))
 
-  pub waits-units : waits order soon next 0 L k ≡ true → 0 < L (jobAt order k)
-  waits-units e = ltb-true 0 (L (jobAt order k)) (and-true (come soon next k && leb 0 k) (ltb 0 (L (jobAt order k))) e .1)
+  pub waits-units : waits ranks arrivals next 0 L k ≡ true → 0 < L (jobAt ranks k)
+  waits-units e = ltb-true 0 (L (jobAt ranks k)) (and-true (come arrivals next k && leb 0 k) (ltb 0 (L (jobAt ranks k))) e .1)
 
-  pub waits-if : (i : ℕ) → i < next → getD soon i 0 ≡ k → 0 < L (jobAt order k) → waits order soon next 0 L k ≡ true
+  pub waits-if : (i : ℕ) → i < next → getD arrivals i 0 ≡ k → 0 < L (jobAt ranks k) → waits ranks arrivals next 0 L k ≡ true
   waits-if i l e u =
-      let c : come soon next k ≡ true = any-intro next _ i l (eq-eqb (getD soon i 0) k e) in
-      rw (c, le-leb 0 k (omega arith), lt-ltb 0 (L (jobAt order k)) u)
+      let c : come arrivals next k ≡ true = any-intro next _ i l (eq-eqb (getD arrivals i 0) k e) in
+      rw (c, le-leb 0 k (omega arith), lt-ltb 0 (L (jobAt ranks k)) u)
 
-  pub waits-not : L (jobAt order k) ≡ 0 → waits order soon next 0 L k ≡ false
-  waits-not z = rw (le-ltb 0 (L (jobAt order k)) (omega arith)) (and-false (come soon next k && leb 0 k))
+  pub waits-not : L (jobAt ranks k) ≡ 0 → waits ranks arrivals next 0 L k ≡ false
+  waits-not z = rw (le-ltb 0 (L (jobAt ranks k)) (omega arith)) (and-false (come arrivals next k && leb 0 k))
 
 -- the rank at place i comes
-module _ (order soon : List ℕ) (i n : ℕ) (L : State) (once : (j : ℕ) → j < i → getD soon j 0 ≢ getD soon i 0) where
-  others : (k : ℕ) → k ≢ getD soon i 0 → come soon (suc i) k ≡ come soon i k
-  unfolding anyBelow
-  others k n = rw (ne-eqb (getD soon i 0) k (λ e. n (sym e))) (or-none (come soon i k))
-    where
-      or-none : (b : Bool) → b || false ≡ b
-      or-none true = refl
-      or-none false = refl
-
-  pub comes-joins : 0 < L (jobAt order (getD soon i 0)) → Joins n (waits order soon i 0 L) (waits order soon (suc i) 0 L) (getD soon i 0)
+module _ (ranks arrivals : List ℕ) (i n : ℕ) (L : State) (once : (j : ℕ) → j < i → getD arrivals j 0 ≢ getD arrivals i 0) where
+  pub comes-joins : 0 < L (jobAt ranks (getD arrivals i 0)) → Joins n (waits ranks arrivals i 0 L) (waits ranks arrivals (suc i) 0 L) (getD arrivals i 0)
   comes-joins u =
-      let fresh : come soon i (getD soon i 0) ≡ false = any-refute i _ (λ j m. ne-eqb (getD soon j 0) (getD soon i 0) (once j m)) in
+      let fresh : come arrivals i (getD arrivals i 0) ≡ false = come-fresh arrivals i once in
       record {
         out = rw fresh;
-        within = waits-if order soon (suc i) L (getD soon i 0) i (omega arith) refl u;
-        same = λ k l m. ap (λ (b : Bool). b && leb 0 k && ltb 0 (L (jobAt order k))) (others k m);
+        within = waits-if ranks arrivals (suc i) L (getD arrivals i 0) i (omega arith) refl u;
+        same = λ k l m. ap (λ (b : Bool). b && leb 0 k && ltb 0 (L (jobAt ranks k))) (come-others arrivals i k m);
       }
 
 -- what the bits of a set say

@@ -2,14 +2,10 @@
 // served, behind its deadline, too. The least deadline that a job is finished behind is the end. The start is the greatest release from which the
 // jobs that are due by the end have too little room.
 use sched::Interval;
-ghost use mathlib.Core.Path.{_≡_};
-ghost use Rattle.sched.specs.Jobs.{jobsOf};
-ghost use Rattle.sched.specs.Checks.{Passes};
-ghost use Rattle.sched.specs.Overload.{shownOverload};
-ghost use Rattle.laws_edf.specs.Overload.Search.{startFor, startOr};
-ghost use Rattle.orders.specs.Order.{Orders};
-ghost use Rattle.step1_overload.specs.Search.{shownOf, falling, Asked};
-ghost use Rattle.step1_overload.specs.Pass.{Reachable, Coming, Arrivable, Arrived, EndAfter, Turnable, Turned, LeastEnd};
+ghost use Rattle.sched.specs.Jobs.{Jobs};
+ghost use Rattle.orders.specs.Lists.{ListsOf};
+ghost use Rattle.step1_overload.specs.Search.{Asked, Answers, StartFor};
+ghost use Rattle.step1_overload.specs.Pass.{Reachable, Coming, Arrivable, Arrived, EndAfter, Turnable, Turns, LeastEnd};
 
 // A slot behind every other.
 const NEVER: u32 = 16777216;
@@ -22,7 +18,7 @@ pub enum Shown {
     At(Interval),
 }
 
-// The slots before t are served. The ranks that wait have a bit each; the first `next` of `soon` have come, and the next one comes at slot
+// The slots before t are served. The ranks that wait have a bit each; the first `next` of `arrivals` have come, and the next one comes at slot
 // `coming`. `end` is the least deadline that a job was finished behind.
 struct Pass {
     t: u32,
@@ -32,32 +28,32 @@ struct Pass {
     end: u16,
 }
 
-// When the rank at place i of `soon` is released.
-fn comes_at(i: usize, releases: &[u16], order: &[u8], soon: &[u8]) -> u32
-    requires { ⌜ Reachable (now releases) (now order) (now soon) ⌝ }
-    ensures { λ r. ⌜ Coming (now (releases .entry)) (now (order .entry)) (now (soon .entry)) i r ⌝ }
+// When the rank at place i of `arrivals` is released.
+fn comes_at(i: usize, releases: &[u16], ranks: &[u8], arrivals: &[u8]) -> u32
+    requires { ⌜ Reachable (now releases) (now ranks) (now arrivals) ⌝ }
+    ensures { λ r. ⌜ Coming (now (releases .entry)) (now (ranks .entry)) (now (arrivals .entry)) i r ⌝ }
 {
     if i < releases.len() {
-        let rank = soon[i] as usize;
-        let job = order[rank] as usize;
+        let rank = arrivals[i] as usize;
+        let job = ranks[rank] as usize;
         return releases[job] as u32;
     }
     NEVER
 }
 
 // The next rank comes.
-fn arrive(last: Pass, releases: &[u16], order: &[u8], soon: &[u8]) -> Pass
-    requires { ⌜ Arrivable (now releases) (now order) (now soon) (last .waiting) (last .next) ⌝ }
-    ensures { λ r. ⌜ Arrived (now (releases .entry)) (now (order .entry)) (now (soon .entry)) (last .t) (last .waiting) (last .next) (last .end) (r .t) (r .waiting) (r .next) (r .coming) (r .end) ⌝ }
+fn arrive(last: Pass, releases: &[u16], ranks: &[u8], arrivals: &[u8]) -> Pass
+    requires { ⌜ Arrivable (now releases) (now ranks) (now arrivals) (last .waiting) (last .next) ⌝ }
+    ensures { λ r. ⌜ Arrived (now (releases .entry)) (now (ranks .entry)) (now (arrivals .entry)) (last .t) (last .waiting) (last .next) (last .end) (r .t) (r .waiting) (r .next) (r .coming) (r .end) ⌝ }
 {
     let at = last.next;
-    let rank = soon[at] as u32;
+    let rank = arrivals[at] as u32;
     let next = at + 1;
     Pass {
         t: last.t,
         waiting: last.waiting + (1u64 << rank),
         next,
-        coming: comes_at(next, releases, order, soon),
+        coming: comes_at(next, releases, ranks, arrivals),
         end: last.end,
     }
 }
@@ -78,20 +74,17 @@ fn end_after(end: u16, deadline: u16, t: u32) -> u16
 // From one event to the next: a rank comes, no rank waits, or the lowest is served until the next one comes or its last unit is done.
 fn turn(
     last: Pass,
-    h: u16,
-    q: u16,
     releases: &[u16],
     deadlines: &[u16],
-    volumes: &[u16],
-    order: &[u8],
-    soon: &[u8],
+    ranks: &[u8],
+    arrivals: &[u8],
     left: &mut [u16],
 ) -> Pass
-    requires { ⌜ Turnable (jobsOf h q (now releases) (now deadlines) (now volumes)) (now order) (now soon) (now left) (last .t) (last .waiting) (last .next) (last .coming) (last .end) ⌝ }
-    ensures { λ r. ⌜ Turned (jobsOf h q (now (releases .entry)) (now (deadlines .entry)) (now (volumes .entry))) (now (order .entry)) (now (soon .entry)) (now (left .entry)) (last .t) (last .next) (last .coming) (now (left .exit)) (r .t) (r .waiting) (r .next) (r .coming) (r .end) ⌝ }
+    requires { ⌜ Turnable (now releases) (now deadlines) (now ranks) (now arrivals) (now left) (last .t) (last .waiting) (last .next) (last .coming) (last .end) ⌝ }
+    ensures { λ r. ⌜ Turns (now (releases .entry)) (now (deadlines .entry)) (now (ranks .entry)) (now (arrivals .entry)) (now (left .entry)) (last .t) (last .waiting) (last .next) (last .coming) (last .end) (now (left .exit)) (r .t) (r .waiting) (r .next) (r .coming) (r .end) ⌝ }
 {
     if last.coming <= last.t {
-        return arrive(last, releases, order, soon);
+        return arrive(last, releases, ranks, arrivals);
     }
     if last.waiting == 0 {
         return Pass {
@@ -103,7 +96,7 @@ fn turn(
         };
     }
     let rank = u64::trailing_zeros(last.waiting);
-    let job = order[rank as usize] as usize;
+    let job = ranks[rank as usize] as usize;
     let units = left[job] as u32;
     let room = last.coming - last.t;
     if room < units {
@@ -129,37 +122,25 @@ fn turn(
 
 // The least end of an overloaded interval, or one behind the horizon.
 fn least_end(
-    h: u16,
-    q: u16,
     releases: &[u16],
     deadlines: &[u16],
     volumes: &[u16],
-    order: &[u8],
-    soon: &[u8],
+    ranks: &[u8],
+    arrivals: &[u8],
 ) -> u16
-    requires { ⌜ Asked (jobsOf h q (now releases) (now deadlines) (now volumes)) (now order) (now soon) ⌝ }
-    ensures { λ r. ⌜ LeastEnd (jobsOf h q (now (releases .entry)) (now (deadlines .entry)) (now (volumes .entry))) r ⌝ }
+    requires { ⌜ Asked (now releases) (now deadlines) (now volumes) (now ranks) (now arrivals) ⌝ }
+    ensures { λ r. ⌜ ((J : Jobs) → ListsOf J (now (releases .entry)) (now (deadlines .entry)) (now (volumes .entry)) → LeastEnd J r) ⌝ }
 {
     let mut left = queue::units(volumes);
     let mut pass = Pass {
         t: 0,
         waiting: 0,
         next: 0,
-        coming: comes_at(0, releases, order, soon),
+        coming: comes_at(0, releases, ranks, arrivals),
         end: NO_END,
     };
     while pass.t < NEVER {
-        pass = turn(
-            pass,
-            h,
-            q,
-            releases,
-            deadlines,
-            volumes,
-            order,
-            soon,
-            &mut left,
-        );
+        pass = turn(pass, releases, deadlines, ranks, arrivals, &mut left);
     }
     pass.end
 }
@@ -167,23 +148,21 @@ fn least_end(
 // The greatest release from which the jobs that are due by b overfill the slots up to b, or 0.
 fn start_for(
     b: u16,
-    h: u16,
-    q: u16,
     releases: &[u16],
     deadlines: &[u16],
     volumes: &[u16],
-    order: &[u8],
-    soon: &[u8],
+    ranks: &[u8],
+    arrivals: &[u8],
 ) -> usize
-    requires { ⌜ Asked (jobsOf h q (now releases) (now deadlines) (now volumes)) (now order) (now soon) ⌝ }
-    ensures { λ r. ⌜ r ≡ startOr 0 (startFor (jobsOf h q (now (releases .entry)) (now (deadlines .entry)) (now (volumes .entry))) b (falling (now (order .entry)) (now (soon .entry))) 0) ⌝ }
+    requires { ⌜ Asked (now releases) (now deadlines) (now volumes) (now ranks) (now arrivals) ⌝ }
+    ensures { λ r. ⌜ StartFor b (now (releases .entry)) (now (deadlines .entry)) (now (volumes .entry)) (now (ranks .entry)) (now (arrivals .entry)) r ⌝ }
 {
     let mut sum: u32 = 0;
-    let mut at = soon.len();
+    let mut at = arrivals.len();
     while 0 < at {
         at -= 1;
-        let rank = soon[at] as usize;
-        let job = order[rank] as usize;
+        let rank = arrivals[at] as usize;
+        let job = ranks[rank] as usize;
         if deadlines[job] <= b {
             sum += volumes[job] as u32;
             let a = releases[job];
@@ -198,21 +177,20 @@ fn start_for(
 // The interval that step 1 shows, of a list that passes the checks, with its jobs by deadline and their ranks by release.
 pub fn find(
     h: u16,
-    q: u16,
     releases: &[u16],
     deadlines: &[u16],
     volumes: &[u16],
-    order: &[u8],
-    soon: &[u8],
+    ranks: &[u8],
+    arrivals: &[u8],
 ) -> Shown
-    requires { ⌜ Passes (jobsOf h q (now releases) (now deadlines) (now volumes)) × Orders (now releases) (now deadlines) (now order) (now soon) ⌝ }
-    ensures { λ r. ⌜ shownOf r ≡ shownOverload (jobsOf h q (now (releases .entry)) (now (deadlines .entry)) (now (volumes .entry))) ⌝ }
+    requires { ⌜ Asked (now releases) (now deadlines) (now volumes) (now ranks) (now arrivals) ⌝ }
+    ensures { λ r. ⌜ Answers h (now (releases .entry)) (now (deadlines .entry)) (now (volumes .entry)) r ⌝ }
 {
-    let end = least_end(h, q, releases, deadlines, volumes, order, soon);
+    let end = least_end(releases, deadlines, volumes, ranks, arrivals);
     if h < end {
         return Shown::Nothing;
     }
-    let start = start_for(end, h, q, releases, deadlines, volumes, order, soon);
+    let start = start_for(end, releases, deadlines, volumes, ranks, arrivals);
     Shown::At(Interval {
         a: start,
         b: end as usize,

@@ -2,7 +2,7 @@
 use Prim.Native.Nat.{ℕ, suc, _+_, _≤_, _<_}
 use mathlib.Core.Path.{_≡_, sym, ap, _∙_}
 use mathlib.Core.Bool.{Bool, true, false, _&&_, _||_}
-use mathlib.Core.List.{List, [], _∷_, map}
+use mathlib.Core.List.{List, _∷_, map}
 use native.Mathlib.Numerals.{add-one}
 use native.Mathlib.Decide.{ℕ-discrete}
 use native.Mathlib.Omega.{arith}
@@ -19,69 +19,77 @@ use Rattle.orders.specs.Placing.{map-at}
 use Rattle.step2_skeleton.specs.Places.{chosen, wins, SleepFrom, Rests, EndFrom}
 
 -- by place and by job
-module _ (J : Jobs) (order starts : List ℕ) (e : starts ≡ map (windowStart J) order) where
-  pub starts-many : length starts ≡ length order
-  starts-many = ap length e ∙ length-map order (windowStart J)
+module _ (J : Jobs) (ranks starts : List ℕ) (e : starts ≡ map (windowStart J) ranks) where
+  pub starts-many : length starts ≡ length ranks
+  starts-many = ap length e ∙ length-map ranks (windowStart J)
 
-  pub start-at : (k : ℕ) → k < length starts → getD starts k 0 ≡ windowStart J (getD order k 0)
-  start-at k l = ap (λ (s : List ℕ). getD s k 0) e ∙ map-at (windowStart J) order k (omega (arith, starts-many))
+  pub start-at : (k : ℕ) → k < length starts → getD starts k 0 ≡ windowStart J (getD ranks k 0)
+  start-at k l = ap (λ (s : List ℕ). getD s k 0) e ∙ map-at (windowStart J) ranks k (omega (arith, starts-many))
 
   -- what sleep costs
 
   module _ (numbers : List ℕ) (same : length numbers ≡ length starts) (s k : ℕ) where
-    head : k < length starts → sleepCost J s (drop k order) (drop k numbers) ≡ sleepCost J s (getD order k 0 ∷ drop (suc k) order) (getD numbers k 0 ∷ drop (suc k) numbers)
+    head : k < length starts → sleepCost J s (drop k ranks) (drop k numbers)
+        ≡ sleepCost J s (getD ranks k 0 ∷ drop (suc k) ranks) (getD numbers k 0 ∷ drop (suc k) numbers)
     head l =
-        ap (λ (js : List ℕ). sleepCost J s js (drop k numbers)) (drop-cons order k 0 (omega (arith, starts-many)))
-        ∙ ap (sleepCost J s (getD order k 0 ∷ drop (suc k) order)) (drop-cons numbers k 0 (omega arith))
+        ap (λ (js : List ℕ). sleepCost J s js (drop k numbers)) (drop-cons ranks k 0 (omega (arith, starts-many)))
+        ∙ ap (sleepCost J s (getD ranks k 0 ∷ drop (suc k) ranks)) (drop-cons numbers k 0 (omega arith))
 
-    pub sleep-past : k < length starts → getD starts k 0 < s → sleepCost J s (drop k order) (drop k numbers) ≡ sleepCost J s (drop (k + 1) order) (drop (k + 1) numbers)
-    sleep-past l m = simp add-one (head l ∙ sleep-skips J s (getD order k 0) (getD numbers k 0) (drop (suc k) order) (drop (suc k) numbers) (omega (arith, start-at k l)))
+    pub sleep-past : k < length starts → getD starts k 0 < s
+        → sleepCost J s (drop k ranks) (drop k numbers) ≡ sleepCost J s (drop (k + 1) ranks) (drop (k + 1) numbers)
+    sleep-past l m = simp add-one (head l ∙ sleep-skips J s (getD ranks k 0) (getD numbers k 0) (drop (suc k) ranks) (drop (suc k) numbers)
+        (omega (arith, start-at k l)))
 
-    pub sleep-here : k < length starts → s ≤ getD starts k 0 → sleepCost J s (drop k order) (drop k numbers) ≡ J .wake + getD numbers k 0
-    sleep-here l m = head l ∙ sleep-wakes J s (getD order k 0) (getD numbers k 0) (drop (suc k) order) (drop (suc k) numbers) (omega (arith, start-at k l))
+    pub sleep-here : k < length starts → s ≤ getD starts k 0 → sleepCost J s (drop k ranks) (drop k numbers) ≡ J .wake + getD numbers k 0
+    sleep-here l m = head l ∙ sleep-wakes J s (getD ranks k 0) (getD numbers k 0) (drop (suc k) ranks) (drop (suc k) numbers)
+        (omega (arith, start-at k l))
 
-    pub sleep-over : length starts ≤ k → sleepCost J s (drop k order) (drop k numbers) ≡ 0
-    sleep-over m = ap (λ (js : List ℕ). sleepCost J s js (drop k numbers)) (drop-of-length-le order {i = k} (omega (arith, starts-many))) ∙ sleep-none J s (drop k numbers)
+    pub sleep-over : length starts ≤ k → sleepCost J s (drop k ranks) (drop k numbers) ≡ 0
+    sleep-over m = ap (λ (js : List ℕ). sleepCost J s js (drop k numbers)) (drop-of-length-le ranks {i = k} (omega (arith, starts-many)))
+        ∙ sleep-none J s (drop k numbers)
 
 -- no window from `from` up to k starts at s or later
 abbrev pub Asleep : ℕ → List ℕ → List ℕ → ℕ → ℕ → ℕ → Type 0
 Asleep q starts numbers from s k =
-    (J : Jobs) (order : List ℕ) → J .wake ≡ q → starts ≡ map (windowStart J) order
-    → sleepCost J s (drop from order) (drop from numbers) ≡ sleepCost J s (drop k order) (drop k numbers)
+    (J : Jobs) (ranks : List ℕ) → J .wake ≡ q → starts ≡ map (windowStart J) ranks
+    → sleepCost J s (drop from ranks) (drop from numbers) ≡ sleepCost J s (drop k ranks) (drop k numbers)
 
 module _ (q : ℕ) (starts numbers : List ℕ) (from s k : ℕ) (same : length numbers ≡ length starts) (a : Asleep q starts numbers from s k) where
   pub asleep-turn : k < length starts → getD starts k 0 < s → Asleep q starts numbers from s (k + 1)
-  asleep-turn l m J order w e = a J order w e ∙ sleep-past J order starts e numbers same s k l m
+  asleep-turn l m J ranks w e = a J ranks w e ∙ sleep-past J ranks starts e numbers same s k l m
 
   pub asleep-found : k < length starts → s ≤ getD starts k 0 → SleepFrom q starts numbers from s (q + getD numbers k 0)
-  asleep-found l m J order w e = ap (λ (n : ℕ). n + getD numbers k 0) (sym w) ∙ sym (a J order w e ∙ sleep-here J order starts e numbers same s k l m)
+  asleep-found l m J ranks w e = ap (λ (n : ℕ). n + getD numbers k 0) (sym w) ∙ sym (a J ranks w e ∙ sleep-here J ranks starts e numbers same s k l m)
 
   pub asleep-end : length starts ≤ k → SleepFrom q starts numbers from s 0
-  asleep-end m J order w e = sym (a J order w e ∙ sleep-over J order starts e numbers same s k m)
+  asleep-end m J ranks w e = sym (a J ranks w e ∙ sleep-over J ranks starts e numbers same s k m)
 
--- the end of a run
+-- the end of a run: another end loses or wins
 
 module _ (low c paid end through : ℕ) where
-  pub loses-too-early : c < low → wins low c paid end through ≡ false
-  loses-too-early l = simp (lt-leb low c l)
+  abbrev pub Picks : ℕ → ℕ → Type 0
+  Picks e t = (e ≡ chosen (wins low c paid end through) c end) × (t ≡ chosen (wins low c paid end through) paid through)
 
-  pub loses-dearer : low ≤ c → through < paid → wins low c paid end through ≡ false
-  loses-dearer l m = simp (le-leb low c l, le-ltb paid through (omega arith), ne-eqb paid through (λ e. omega arith))
-
-  pub loses-later : low ≤ c → paid ≡ through → end ≤ c → wins low c paid end through ≡ false
-  loses-later l e m = simp (le-leb low c l, le-ltb paid through (omega arith), eq-eqb paid through e, le-ltb c end m)
-
-  pub wins-earlier : low ≤ c → paid ≡ through → c < end → wins low c paid end through ≡ true
-  wins-earlier l e m = simp (le-leb low c l, le-ltb paid through (omega arith), eq-eqb paid through e, lt-ltb c end m)
-
-  pub wins-cheaper : low ≤ c → paid < through → wins low c paid end through ≡ true
-  wins-cheaper l m = simp (le-leb low c l, lt-ltb paid through m)
-
-  pub keeps : wins low c paid end through ≡ false → (end ≡ chosen (wins low c paid end through) c end) × (through ≡ chosen (wins low c paid end through) paid through)
+  keeps : wins low c paid end through ≡ false → Picks end through
   keeps e = (ap (λ (b : Bool). chosen b c end) (sym e), ap (λ (b : Bool). chosen b paid through) (sym e))
 
-  pub gives-way : wins low c paid end through ≡ true → (c ≡ chosen (wins low c paid end through) c end) × (paid ≡ chosen (wins low c paid end through) paid through)
+  gives-way : wins low c paid end through ≡ true → Picks c paid
   gives-way e = (ap (λ (b : Bool). chosen b c end) (sym e), ap (λ (b : Bool). chosen b paid through) (sym e))
+
+  pub too-early : c < low → Picks end through
+  too-early l = keeps (simp (lt-leb low c l))
+
+  pub dearer : low ≤ c → through < paid → Picks end through
+  dearer l m = keeps (simp (le-leb low c l, le-ltb paid through (omega arith), ne-eqb paid through (λ e. omega arith)))
+
+  pub as-late : low ≤ c → paid ≡ through → end ≤ c → Picks end through
+  as-late l e m = keeps (simp (le-leb low c l, le-ltb paid through (omega arith), eq-eqb paid through e, le-ltb c end m))
+
+  pub earlier : low ≤ c → paid ≡ through → c < end → Picks c paid
+  earlier l e m = gives-way (simp (le-leb low c l, le-ltb paid through (omega arith), eq-eqb paid through e, lt-ltb c end m))
+
+  pub cheaper : low ≤ c → paid < through → Picks c paid
+  cheaper l m = gives-way (simp (le-leb low c l, lt-ltb paid through m))
 
 module _ (J : Jobs) (js vs : List ℕ) (low end through c paid end′ through′ k : ℕ) (ks : List ℕ)
     (at : c ≡ suc (windowStart J k)) (here : paid ≡ throughCost J js vs c) (best : through ≡ throughCost J js vs end)
@@ -90,50 +98,68 @@ module _ (J : Jobs) (js vs : List ℕ) (low end through c paid end′ through′
   test =
       ap (λ (n : ℕ). leb low c && (ltb n through || eqb n through && ltb c end)) here
       ∙ ap (λ (n : ℕ). leb low c && (ltb (throughCost J js vs c) n || eqb (throughCost J js vs c) n && ltb c end)) best
-      ∙ ap (λ (n : ℕ). leb low n && (ltb (throughCost J js vs n) (throughCost J js vs end) || eqb (throughCost J js vs n) (throughCost J js vs end) && ltb n end)) at
+      ∙ ap (λ (n : ℕ). leb low n && (ltb (throughCost J js vs n) (throughCost J js vs end) || eqb (throughCost J js vs n)
+      (throughCost J js vs end) && ltb n end)) at
 
   pub end-turn : (runEnd J js vs low end (k ∷ ks) ≡ runEnd J js vs low end′ ks) × (through′ ≡ throughCost J js vs end′)
   end-turn = by-bool (wins low c paid end through) won lost
     where
-      won : wins low c paid end through ≡ true → (runEnd J js vs low end (k ∷ ks) ≡ runEnd J js vs low end′ ks) × (through′ ≡ throughCost J js vs end′)
+      won : wins low c paid end through ≡ true → (runEnd J js vs low end (k ∷ ks) ≡ runEnd J js vs low end′ ks) ×
+          (through′ ≡ throughCost J js vs end′)
       won t =
           let e : end′ ≡ c = ends ∙ ap (λ (b : Bool). chosen b c end) t in
-          let p : through′ ≡ paid = throughs ∙ ap (λ (b : Bool). chosen b paid through) t in
-          (run-end-takes J js vs low end k ks (sym test ∙ t) ∙ ap (λ (n : ℕ). runEnd J js vs low n ks) (sym (e ∙ at)), p ∙ here ∙ ap (throughCost J js vs) (sym e))
+          let p : through′ ≡ paid = throughs ∙ ap (λ (b : Bool). chosen b paid through) t in (
+            run-end-takes J js vs low end k ks (sym test ∙ t) ∙ ap (λ (n : ℕ). runEnd J js vs low n ks) (sym (e ∙ at)),
+            p ∙ here ∙ ap
+                (throughCost J js vs) (sym e),
+          )
 
-      lost : wins low c paid end through ≡ false → (runEnd J js vs low end (k ∷ ks) ≡ runEnd J js vs low end′ ks) × (through′ ≡ throughCost J js vs end′)
+      lost : wins low c paid end through ≡ false
+          → (runEnd J js vs low end (k ∷ ks) ≡ runEnd J js vs low end′ ks) × (through′ ≡ throughCost J js vs end′)
       lost t =
           let e : end′ ≡ end = ends ∙ ap (λ (b : Bool). chosen b c end) t in
-          let p : through′ ≡ through = throughs ∙ ap (λ (b : Bool). chosen b paid through) t in
-          (run-end-keeps J js vs low end k ks (sym test ∙ t) ∙ ap (λ (n : ℕ). runEnd J js vs low n ks) (sym e), p ∙ best ∙ ap (throughCost J js vs) (sym e))
+          let p : through′ ≡ through = throughs ∙ ap (λ (b : Bool). chosen b paid through) t in (
+            run-end-keeps J js vs low end k ks (sym test ∙ t) ∙ ap (λ (n : ℕ). runEnd J js vs low n ks) (sym e),
+            p ∙ best ∙ ap (throughCost J js vs)
+                (sym e),
+          )
 
 -- the best end but for the windows from place k on
 abbrev pub Ended : List ℕ → List ℕ → ℕ → ℕ → ℕ → ℕ → ℕ → ℕ → Type 0
 Ended starts rests from low through₀ end through k =
-    (J : Jobs) (order vs : List ℕ) → starts ≡ map (windowStart J) order → Rests J starts rests (drop from order) vs from
-    → through₀ ≡ throughCost J (drop from order) vs low
-    → (runEnd J (drop from order) vs low low (drop from order) ≡ runEnd J (drop from order) vs low end (drop k order))
-    × (through ≡ throughCost J (drop from order) vs end)
+    (J : Jobs) (ranks vs : List ℕ) → starts ≡ map (windowStart J) ranks → Rests J starts rests (drop from ranks) vs from
+    → through₀ ≡ throughCost J (drop from ranks) vs low
+    → (runEnd J (drop from ranks) vs low low (drop from ranks) ≡ runEnd J (drop from ranks) vs low end (drop k ranks))
+    × (through ≡ throughCost J (drop from ranks) vs end)
 
 module _ (starts rests : List ℕ) (from low through₀ : ℕ) where
   pub ended-turn : (end through k end′ through′ : ℕ) → from ≤ k → k < length starts
       → end′ ≡ chosen (wins low (getD starts k 0 + 1) (getD starts k 0 + 1 + getD rests k 0) end through) (getD starts k 0 + 1) end
-      → through′ ≡ chosen (wins low (getD starts k 0 + 1) (getD starts k 0 + 1 + getD rests k 0) end through) (getD starts k 0 + 1 + getD rests k 0) through
+      → through′ ≡ chosen (wins low (getD starts k 0 + 1) (getD starts k 0 + 1 + getD rests k 0) end through)
+      (getD starts k 0 + 1 + getD rests k 0) through
       → Ended starts rests from low through₀ end through k → Ended starts rests from low through₀ end′ through′ (k + 1)
-  ended-turn end through k end′ through′ f l a b m J order vs e r t =
-      let i = m J order vs e r t in
-      let js = drop from order in
+  ended-turn end through k end′ through′ f l a b m J ranks vs e r t =
+      let i = m J ranks vs e r t in
+      let js = drop from ranks in
       let one : getD starts k 0 + 1 ≡ suc (getD starts k 0) = add-one (getD starts k 0) in
-      let at : getD starts k 0 + 1 ≡ suc (windowStart J (getD order k 0)) = one ∙ ap suc (start-at J order starts e k l) in
+      let at : getD starts k 0 + 1 ≡ suc (windowStart J (getD ranks k 0)) = one ∙ ap suc (start-at J ranks starts e k l) in
       let paid : getD starts k 0 + 1 + getD rests k 0 ≡ throughCost J js vs (getD starts k 0 + 1) =
       ap (λ (n : ℕ). getD starts k 0 + 1 + n) (r k f l ∙ ap (λ (n : ℕ). sleepCost J n js vs) (sym one)) in
-      let turn = end-turn J js vs low end through (getD starts k 0 + 1) (getD starts k 0 + 1 + getD rests k 0) end′ through′ (getD order k 0) (drop (suc k) order) at paid (i .1) a b in
-      (i .0 ∙ ap (runEnd J js vs low end) (drop-cons order k 0 (omega (arith, starts-many J order starts e))) ∙ turn .0 ∙ ap (λ (n : ℕ). runEnd J js vs low end′ (drop n order)) (sym (add-one k)), turn .1)
+      let turn = end-turn J js vs low end through (getD starts k 0 + 1) (getD starts k 0 + 1 + getD rests k 0) end′ through′ (getD ranks k 0)
+      (drop (suc k) ranks) at paid (i .1) a b in (
+        i .0 ∙ ap (runEnd J js vs low end) (drop-cons ranks k 0 (omega (arith, starts-many J ranks starts e))) ∙ turn .0 ∙ ap
+            (λ (n : ℕ). runEnd J js vs low end′ (drop n ranks)) (sym (add-one k)),
+        turn .1,
+      )
 
-  pub ended-end : (end through k : ℕ) → length starts ≤ k → Ended starts rests from low through₀ end through k → EndFrom starts rests from low through₀ end through
-  ended-end end through k l m J order vs e r t =
-      let i = m J order vs e r t in
-      (sym (i .0 ∙ ap (runEnd J (drop from order) vs low end) (drop-of-length-le order {i = k} (omega (arith, starts-many J order starts e))) ∙ run-end-none J (drop from order) vs low end), i .1)
+  pub ended-end : (end through k : ℕ) → length starts ≤ k → Ended starts rests from low through₀ end through k
+      → EndFrom starts rests from low through₀ end through
+  ended-end end through k l m J ranks vs e r t =
+      let i = m J ranks vs e r t in (
+        sym (i .0 ∙ ap (runEnd J (drop from ranks) vs low end)
+            (drop-of-length-le ranks {i = k} (omega (arith, starts-many J ranks starts e))) ∙ run-end-none J (drop from ranks) vs low end),
+        i .1,
+      )
 
 -- one job more to wake for
 

@@ -30,33 +30,38 @@ largest = 65535 + 64 * (4096 + 65535)
 abbrev pub Small : ℕ → ℕ → List ℕ → Type 0
 Small most from l = (k : ℕ) → from ≤ k → k < length l → getD l k 0 ≤ most
 
--- a list that passes the checks, with an order of its jobs that serves, and a table for it
-pub record Served (J : Jobs) (order table : List ℕ) : Type 0 where
+-- the numbers and lists are those of J, which passes the checks and starts asleep; its ranks are an order that serves
+pub record Markable (J : Jobs) (h q : ℕ) (releases deadlines ranks table : List ℕ) : Type 0 where
+  pub horizon-is : J .horizon ≡ h
+  pub wake-is : J .wake ≡ q
+  pub releases-are : J .releases ≡ releases
+  pub deadlines-are : J .deadlines ≡ deadlines
+  pub asleep : J .start ≡ false
   pub passes : Passes J
-  pub serves : Order J order
-  pub many : length order ≡ count J
-  pub known : (k : ℕ) → k < length order → getD order k 0 < count J
+  pub serves : Order J ranks
+  pub many : length ranks ≡ count J
+  pub known : (k : ℕ) → k < length ranks → getD ranks k 0 < count J
   pub long : length table ≡ J .horizon
 
-pub record Placeable (releases deadlines order starts ends : List ℕ) : Type 0 where
-  pub known : (k : ℕ) → k < length order → getD order k 0 < length releases
+pub record Placeable (releases deadlines ranks starts ends : List ℕ) : Type 0 where
+  pub known : (k : ℕ) → k < length ranks → getD ranks k 0 < length releases
   pub same : length deadlines ≡ length releases
-  pub starts-many : length starts ≡ length order
-  pub ends-many : length ends ≡ length order
+  pub starts-many : length starts ≡ length ranks
+  pub ends-many : length ends ≡ length ranks
 
 -- the windows of the jobs of a list, in an order that serves
-pub record Windows (starts ends : List ℕ) (J : Jobs) (order : List ℕ) : Type 0 where
+pub record Windows (starts ends : List ℕ) (J : Jobs) (ranks : List ℕ) : Type 0 where
   pub passes : Passes J
-  pub serves : Order J order
-  pub many : length order ≡ count J
-  pub firsts : starts ≡ map (windowStart J) order
-  pub lasts : ends ≡ map (windowEnd J) order
+  pub serves : Order J ranks
+  pub many : length ranks ≡ count J
+  pub firsts : starts ≡ map (windowStart J) ranks
+  pub lasts : ends ≡ map (windowEnd J) ranks
 
 -- The parts of a turn
 
 abbrev pub SleepFrom : ℕ → List ℕ → List ℕ → ℕ → ℕ → ℕ → Type 0
 SleepFrom q starts numbers from s cost =
-    (J : Jobs) (order : List ℕ) → J .wake ≡ q → starts ≡ map (windowStart J) order → cost ≡ sleepCost J s (drop from order) (drop from numbers)
+    (J : Jobs) (ranks : List ℕ) → J .wake ≡ q → starts ≡ map (windowStart J) ranks → cost ≡ sleepCost J s (drop from ranks) (drop from numbers)
 
 -- what sleep costs behind the start of each window, with the jobs `js` to wake for
 abbrev pub Rests : Jobs → List ℕ → List ℕ → List ℕ → List ℕ → ℕ → Type 0
@@ -65,45 +70,45 @@ Rests J starts rests js vs from =
 
 abbrev pub EndFrom : List ℕ → List ℕ → ℕ → ℕ → ℕ → ℕ → ℕ → Type 0
 EndFrom starts rests from low through end paid =
-    (J : Jobs) (order vs : List ℕ) → starts ≡ map (windowStart J) order → Rests J starts rests (drop from order) vs from
-    → through ≡ throughCost J (drop from order) vs low
-    → (end ≡ runEnd J (drop from order) vs low low (drop from order)) × (paid ≡ throughCost J (drop from order) vs end)
+    (J : Jobs) (ranks vs : List ℕ) → starts ≡ map (windowStart J) ranks → Rests J starts rests (drop from ranks) vs from
+    → through ≡ throughCost J (drop from ranks) vs low
+    → (end ≡ runEnd J (drop from ranks) vs low low (drop from ranks)) × (paid ≡ throughCost J (drop from ranks) vs end)
 
 -- The pass from the last place to the first
 
 -- where the run ends that begins with the window of each place from i on
 abbrev pub Untils : Jobs → List ℕ → List ℕ → ℕ → Type 0
-Untils J order untils i =
-    (k : ℕ) → i ≤ k → k < length order
-    → getD untils k 0 ≡ endAfter J (drop (suc k) order) (values J (drop (suc k) order)) (windowEnd J (getD order k 0))
+Untils J ranks untils i =
+    (k : ℕ) → i ≤ k → k < length ranks
+    → getD untils k 0 ≡ endAfter J (drop (suc k) ranks) (values J (drop (suc k) ranks)) (windowEnd J (getD ranks k 0))
 
 -- the places from i on are done
-pub record Priced (starts numbers rests untils : List ℕ) (J : Jobs) (order : List ℕ) (i : ℕ) : Type 0 where
-  pub behind : drop i numbers ≡ values J (drop i order)
-  pub asleep : Rests J starts rests (drop i order) (values J (drop i order)) 0
-  pub until : Untils J order untils i
+pub record Priced (starts numbers rests untils : List ℕ) (J : Jobs) (ranks : List ℕ) (i : ℕ) : Type 0 where
+  pub behind : drop i numbers ≡ values J (drop i ranks)
+  pub asleep : Rests J starts rests (drop i ranks) (values J (drop i ranks)) 0
+  pub until : Untils J ranks untils i
 
 pub record Priceable (q : ℕ) (starts ends numbers rests untils : List ℕ) (i : ℕ) : Type 0 where
   pub J : Jobs
-  pub order : List ℕ
+  pub ranks : List ℕ
   pub wake : J .wake ≡ q
-  pub windows : Windows starts ends J order
+  pub windows : Windows starts ends J ranks
   pub numbers-many : length numbers ≡ length starts
   pub rests-many : length rests ≡ length starts
   pub untils-many : length untils ≡ length starts
   pub within : i < length starts
-  pub done : Priced starts numbers rests untils J order (suc i)
+  pub done : Priced starts numbers rests untils J ranks (suc i)
 
 abbrev pub Step : ℕ → List ℕ → List ℕ → List ℕ → List ℕ → List ℕ → List ℕ → List ℕ → List ℕ → ℕ → Type 0
 Step q starts ends numbers rests untils numbers′ rests′ untils′ i =
-    (J : Jobs) (order : List ℕ) → Windows starts ends J order → J .wake ≡ q
-    → Priced starts numbers rests untils J order (suc i) → Priced starts numbers′ rests′ untils′ J order i
+    (J : Jobs) (ranks : List ℕ) → Windows starts ends J ranks → J .wake ≡ q
+    → Priced starts numbers rests untils J ranks (suc i) → Priced starts numbers′ rests′ untils′ J ranks i
 
 pub record Fresh (q : ℕ) (starts ends numbers rests untils : List ℕ) : Type 0 where
   pub J : Jobs
-  pub order : List ℕ
+  pub ranks : List ℕ
   pub wake : J .wake ≡ q
-  pub windows : Windows starts ends J order
+  pub windows : Windows starts ends J ranks
   pub numbers-many : length numbers ≡ length starts
   pub rests-many : length rests ≡ length starts
   pub untils-many : length untils ≡ length starts
@@ -113,24 +118,25 @@ pub record Fresh (q : ℕ) (starts ends numbers rests untils : List ℕ) : Type 
 
 pub record Drawable (starts ends untils table : List ℕ) : Type 0 where
   pub J : Jobs
-  pub order : List ℕ
-  pub windows : Windows starts ends J order
+  pub ranks : List ℕ
+  pub windows : Windows starts ends J ranks
   pub many : length untils ≡ length starts
-  pub until : Untils J order untils 0
+  pub until : Untils J ranks untils 0
   pub long : length table ≡ J .horizon
 
 abbrev pub Drawn : List ℕ → List ℕ → List ℕ → List ℕ → Type 0
 Drawn starts ends untils table =
-    (J : Jobs) (order : List ℕ) → Windows starts ends J order → Untils J order untils 0 → length table ≡ J .horizon
-    → awakeOf table ≡ spread (J .horizon) 0 (runsOf J 0 order (values J order))
+    (J : Jobs) (ranks : List ℕ) → Windows starts ends J ranks → Untils J ranks untils 0 → length table ≡ J .horizon
+    → awakeOf table ≡ spread (J .horizon) 0 (runsOf J 0 ranks (values J ranks))
 
-pub record Markable (q : ℕ) (starts ends table : List ℕ) : Type 0 where
+pub record MarkableWindows (q : ℕ) (starts ends table : List ℕ) : Type 0 where
   pub J : Jobs
-  pub order : List ℕ
+  pub ranks : List ℕ
   pub wake : J .wake ≡ q
-  pub windows : Windows starts ends J order
+  pub windows : Windows starts ends J ranks
   pub long : length table ≡ J .horizon
 
-abbrev pub Marked : ℕ → List ℕ → List ℕ → List ℕ → Type 0
-Marked q starts ends table =
-    (J : Jobs) (order : List ℕ) → Windows starts ends J order → J .wake ≡ q → length table ≡ J .horizon → awakeOf table ≡ leastSkeleton J
+abbrev pub MarkedWindows : ℕ → List ℕ → List ℕ → List ℕ → Type 0
+MarkedWindows q starts ends table =
+    (J : Jobs) (ranks : List ℕ) → Windows starts ends J ranks → J .wake ≡ q → J .start ≡ false → length table ≡ J .horizon
+    → awakeOf table ≡ leastSkeleton J

@@ -8,12 +8,9 @@ ghost use lib.Dec.{ltb};
 ghost use Rattle.sched.specs.Jobs.{Jobs};
 ghost use Rattle.sched.specs.Slots.{awakeOf};
 ghost use Rattle.sched.specs.Skeleton.{leastSkeleton};
-ghost use Rattle.sched.specs.Jobs.{jobsOf};
-ghost use Rattle.step2_skeleton.specs.Places.{chosen, wins, largest, Small, Placeable, SleepFrom, EndFrom, Windows, Priceable, Step, Fresh, Untils, Drawable, Drawn, Markable, Marked, Served};
-
-const AWAKE: u8 = 254;
-
-const ASLEEP: u8 = 255;
+ghost use Rattle.step2_skeleton.specs.Places.{chosen, wins, largest, Small, Placeable, SleepFrom, EndFrom, Windows, Priceable, Step, Fresh, Untils, Drawable, Drawn, MarkableWindows, MarkedWindows, Markable};
+use sched::ASLEEP;
+use sched::IDLE;
 
 // The first and the last slot of a job's window.
 fn first_of(release: u16) -> u16
@@ -34,16 +31,16 @@ fn by_place(
     h: u16,
     releases: &[u16],
     deadlines: &[u16],
-    order: &[u8],
+    ranks: &[u8],
     starts: &mut [u16],
     ends: &mut [u16],
 )
-    requires { ⌜ (1 ≤ h) × Placeable (now releases) (now deadlines) (now order) (now starts) (now ends) ⌝ }
-    ensures { λ r. ⌜ (now (starts .exit) ≡ map (λ j. getD (now (releases .entry)) j 0 - 1) (now (order .entry))) × (now (ends .exit) ≡ map (λ j. min (getD (now (deadlines .entry)) j 0) (h - 1)) (now (order .entry))) ⌝ }
+    requires { ⌜ (1 ≤ h) × Placeable (now releases) (now deadlines) (now ranks) (now starts) (now ends) ⌝ }
+    ensures { λ r. ⌜ (now (starts .exit) ≡ map (λ j. getD (now (releases .entry)) j 0 - 1) (now (ranks .entry))) × (now (ends .exit) ≡ map (λ j. min (getD (now (deadlines .entry)) j 0) (h - 1)) (now (ranks .entry))) ⌝ }
 {
     let mut k = 0;
-    while k < order.len() {
-        let job = order[k] as usize;
+    while k < ranks.len() {
+        let job = ranks[k] as usize;
         starts[k] = first_of(releases[job]);
         ends[k] = last_of(h, deadlines[job]);
         k += 1;
@@ -155,7 +152,7 @@ fn price_all(
     untils: &mut [u16],
 )
     requires { ⌜ Fresh q (now starts) (now ends) (now values) (now rests) (now untils) ⌝ }
-    ensures { λ r. ⌜ ((J : Jobs) (order : List ℕ) → Windows (now (starts .entry)) (now (ends .entry)) J order → J .wake ≡ q → Untils J order (now (untils .exit)) 0) ⌝ }
+    ensures { λ r. ⌜ ((J : Jobs) (ranks : List ℕ) → Windows (now (starts .entry)) (now (ends .entry)) J ranks → J .wake ≡ q → Untils J ranks (now (untils .exit)) 0) ⌝ }
 {
     let mut i = starts.len();
     while 0 < i {
@@ -181,7 +178,7 @@ fn draw_run(table: &mut [u8], s: usize, first: usize, end: usize)
     ensures { λ r. ⌜ awakeOf (take end (now (table .exit))) ≡ awakeOf (take s (now (table .entry))) ++ (replicate (first - s) false ++ replicate (end - first) true) ⌝ }
 {
     fill(table, s, first, ASLEEP);
-    fill(table, first, end, AWAKE);
+    fill(table, first, end, IDLE);
 }
 
 // A window that starts at s, the end of the last run, or later begins a run in its last slot.
@@ -206,8 +203,8 @@ fn draw(starts: &[u16], ends: &[u16], untils: &[u16], table: &mut [u8])
 }
 
 fn mark_windows(q: u16, starts: &[u16], ends: &[u16], table: &mut [u8])
-    requires { ⌜ Markable q (now starts) (now ends) (now table) ⌝ }
-    ensures { λ r. ⌜ Marked q (now (starts .entry)) (now (ends .entry)) (now (table .exit)) ⌝ }
+    requires { ⌜ MarkableWindows q (now starts) (now ends) (now table) ⌝ }
+    ensures { λ r. ⌜ MarkedWindows q (now (starts .entry)) (now (ends .entry)) (now (table .exit)) ⌝ }
 {
     let n = starts.len();
     let mut values = [0u32; 64];
@@ -225,26 +222,18 @@ fn mark_windows(q: u16, starts: &[u16], ends: &[u16], table: &mut [u8])
 }
 
 // The least skeleton of a list that passes the checks: awake and idle, or asleep.
-pub fn mark(
-    h: u16,
-    q: u16,
-    releases: &[u16],
-    deadlines: &[u16],
-    volumes: &[u16],
-    order: &[u8],
-    table: &mut [u8],
-)
-    requires { ⌜ Served (jobsOf h q (now releases) (now deadlines) (now volumes)) (now order) (now table) ⌝ }
-    ensures { λ r. ⌜ awakeOf (now (table .exit)) ≡ leastSkeleton (jobsOf h q (now (releases .entry)) (now (deadlines .entry)) (now (volumes .entry))) ⌝ }
+pub fn mark(h: u16, q: u16, releases: &[u16], deadlines: &[u16], ranks: &[u8], table: &mut [u8])
+    requires { ⌜ ((J : Jobs) × Markable J h q (now releases) (now deadlines) (now ranks) (now table)) ⌝ }
+    ensures { λ r. ⌜ ((J : Jobs) → Markable J h q (now (releases .entry)) (now (deadlines .entry)) (now (ranks .entry)) (now (table .entry)) → awakeOf (now (table .exit)) ≡ leastSkeleton J) ⌝ }
 {
-    let n = order.len();
+    let n = ranks.len();
     let mut starts = [0u16; 64];
     let mut ends = [0u16; 64];
     by_place(
         h,
         releases,
         deadlines,
-        order,
+        ranks,
         &mut starts[..n],
         &mut ends[..n],
     );

@@ -4,108 +4,130 @@ use mathlib.Core.Path.{_≡_, ap, sym, subst, _∙_}
 use mathlib.Core.Bool.{Bool}
 use mathlib.Core.List.{List}
 use native.Mathlib.Omega.{arith}
-use lib.ListN.{length, length-replicate}
+use lib.ListN.{length, replicate, length-replicate}
 use Rattle.sched.specs.Bounded.{sumBelow}
-use Rattle.sched.specs.Jobs.{Jobs, count, volume, totalVolume}
+use Rattle.sched.specs.Jobs.{Jobs, volume, totalVolume}
 use Rattle.sched.specs.Slots.{awake, awakeOf}
 use Rattle.sched.specs.Skeleton.{isSkeleton, leastSkeleton}
 use Rattle.sched.specs.Workable.{workable}
-use Rattle.sched.specs.Steps.{wokenIn, woken, wakeAll, extended}
-use Rattle.laws_edf.specs.Run.{State, spans, bytes, final}
+use Rattle.sched.specs.Extension.{wokenIn, woken, wakeAll, extended}
+use Rattle.laws_edf.specs.Run.{State, Spans, spans, bytes, final}
+use Rattle.laws_edf.specs.Orders.{Orders}
 use Rattle.laws_edf.specs.Search.{stateOf}
 use Rattle.laws_edf.specs.Placements.{bytes-long}
 use Rattle.laws_edf.specs.Theorems.{workable-at-most-total, some-slot-wakes}
-use Rattle.laws_extension.specs.Chain.{Kept, endOf}
-use Rattle.laws_extension.specs.Chain.Keeping.{runBytes, kept-start}
+use Rattle.laws_extension.specs.Chain.{Kept}
+use Rattle.laws_extension.specs.Chain.Keeping.{runBytes}
 use Rattle.laws_extension.specs.Chain.Missing.{kept-set, kept-volume}
 use Rattle.sched.specs.Slots.Laws.{awake-of-length}
 use Rattle.laws_skeleton.specs.Theorems.{least-is-skeleton, least-length}
 use Rattle.laws_extension.specs.Waking.Laws.{woken-count}
-use Rattle.queue.specs.Runs.{Runnable, RunDone}
+use Rattle.queue.specs.Runs.{Runnable, RunDone, Units}
+use Rattle.queue.specs.Ranks.{spansOf}
+use Rattle.queue.specs.Runs.Whole.{whole-table, whole-left}
 use Rattle.step3_extend.specs.Turns.{Extending}
-use Rattle.step3_extend.specs.Beginning.{Beginning, EndsOf, Begun}
-use Rattle.queue.specs.Ranks.Laws.{ranks-of}
+use Rattle.step3_extend.specs.Beginning.{Extendable, EndsOf, Begun}
 
-module _ {J : Jobs} {order lost ends table : List ℕ} (g : Beginning J order lost ends table) where
+module _ {J : Jobs} {releases deadlines volumes ranks table : List ℕ} (g : Extendable J releases deadlines volumes ranks table) where
+  pub volumes-few : length volumes ≤ 64
+  volumes-few = omega (arith, ap length (g .volumes-are), g .passes .same-volumes, g .passes .few)
+
+  spans-are : spans J ≡ spansOf releases deadlines
+  spans-are =
+      ap (λ (l : List ℕ). spansOf l (J .deadlines)) (g .releases-are) ∙ ap (spansOf releases) (g .deadlines-are)
+
   set-long : length (awakeOf table) ≡ J .horizon
-  set-long = ap length (g .extendable .set-is) ∙ least-length J (g .extendable .passes)
+  set-long = ap length (g .set-is) ∙ least-length J (g .passes)
 
   lent-long : length table ≡ J .horizon
   lent-long = sym (awake-of-length table) ∙ set-long
 
-  pub begin-runnable : Runnable (spans J) order lost table
-  begin-runnable =
-      record {
-        short = omega (arith, lent-long, g .extendable .passes .high);
-        ranks = ranks-of J order lost (g .extendable .passes .few) (omega (arith, g .extendable .passes .few, g .units .long)) (g .extendable .ranks);
-      }
+  module _ {units : List ℕ} (u : Units volumes units) where
+    pub begin-runnable : {arrivals : List ℕ} → Orders releases deadlines ranks arrivals → Runnable releases deadlines ranks arrivals units table
+    begin-runnable o =
+        let few : length releases ≤ 64 = omega (arith, ap length (g .releases-are), g .passes .few) in
+        record {
+          short = omega (arith, lent-long, g .passes .high);
+          queued = record { orders = o; few = few; room = omega (arith, u .long) };
+        }
 
-  module _ {lost′ table′ : List ℕ} (done : RunDone (spans J) lost table lost′ table′) where
-    ran : table′ ≡ runBytes J (awake (awakeOf table))
-    ran =
-        done .table-is
-        ∙ ap (λ (n : ℕ). bytes (spans J) (awake (awakeOf table)) n 0 (stateOf lost)) lent-long
-        ∙ ap (bytes (spans J) (awake (awakeOf table)) (J .horizon) 0) (g .units .same)
+    all-units : stateOf units ≡ volume J
+    all-units = u .same ∙ ap stateOf (sym (g .volumes-are))
 
-    over : stateOf lost′ ≡ final (spans J) (awake (awakeOf table)) (J .horizon) 0 (volume J)
-    over =
-        done .left-is
-        ∙ ap (λ (n : ℕ). final (spans J) (awake (awakeOf table)) n 0 (stateOf lost)) lent-long
-        ∙ ap (final (spans J) (awake (awakeOf table)) (J .horizon) 0) (g .units .same)
+    module _ {lost table′ : List ℕ} (done : RunDone (spansOf releases deadlines) 0 units table lost table′) where
+      run : RunDone (spans J) 0 units table lost table′
+      run = subst (λ (F : Spans). RunDone F 0 units table lost table′) (sym spans-are) done
 
-    pub begin-small : length table′ ≤ 4096
-    begin-small =
-        omega (arith, ap length ran, bytes-long (spans J) (awake (awakeOf table)) (J .horizon) 0 (volume J), g .extendable .passes .high)
+      ran : table′ ≡ runBytes J (awake (awakeOf table))
+      ran =
+          whole-table run
+          ∙ ap (λ (n : ℕ). bytes (spans J) (awake (awakeOf table)) n 0 (stateOf units)) lent-long
+          ∙ ap (bytes (spans J) (awake (awakeOf table)) (J .horizon) 0) all-units
 
-    pub begin-room : (count J ≤ 64) × (count J ≤ length lost′)
-    begin-room = (g .extendable .passes .few, omega (arith, g .extendable .passes .few, done .left-long, g .units .long))
+      over : stateOf lost ≡ final (spans J) (awake (awakeOf table)) (J .horizon) 0 (volume J)
+      over =
+          whole-left run
+          ∙ ap (λ (n : ℕ). final (spans J) (awake (awakeOf table)) n 0 (stateOf units)) lent-long
+          ∙ ap (final (spans J) (awake (awakeOf table)) (J .horizon) 0) all-units
 
-    module _ {ends′ : List ℕ} (same : length ends′ ≡ length ends) (last : EndsOf table′ ends′) (short : ℕ)
-        (sum : short ≡ sumBelow (count J) (stateOf lost′)) where
-      kept : Kept J (awakeOf table) table′ lost′ ends′
-      kept =
-          rw ran
-          (kept-start J (omega (arith, g .extendable .passes .few)) (awakeOf table) lost′ ends′ (begin-room .1)
-          (omega (arith, g .extendable .passes .few, same, ap length (g .blank), length-replicate {A = ℕ} 64 0))
-          (λ j l. ap (λ (L : State). L j) over)
-          (λ j l. last .each j (omega (arith, g .extendable .passes .few)) ∙ ap (endOf j) ran))
+      pub begin-small : length table′ ≤ 4096
+      begin-small =
+          omega (arith, ap length ran, bytes-long (spans J) (awake (awakeOf table)) (J .horizon) 0 (volume J), g .passes .high)
 
-      missing : workable J (awakeOf table) + short ≡ totalVolume J
-      missing = rw sum (kept-volume (g .extendable .passes) set-long kept)
+      pub begin-room : (length ranks ≤ 64) × (length ranks ≤ length lost)
+      begin-room = (omega (arith, g .many, g .passes .few), omega (arith, g .many, g .passes .few, done .left-long, u .long))
 
-      in-all : length (woken J (leastSkeleton J)) ≡ short
-      in-all =
-          let p = g .extendable .passes in
-          let least = ap (workable J) (g .extendable .set-is) in
-          omega (
-            arith,
-            missing,
-            least,
-            woken-count J (λ S n k v. some-slot-wakes J S p (g .extendable .free) k n v) (leastSkeleton J) (least-length J p) (least-is-skeleton J p)
-                (workable-at-most-total J (leastSkeleton J) p (least-length J p)),
-          )
+      module _ {ends : List ℕ} (same : length ends ≡ length {A = ℕ} (replicate 64 0)) (last : EndsOf table′ ends) {short : ℕ}
+          (sum : short ≡ sumBelow (length ranks) (stateOf lost)) where
+        kept : Kept J (awakeOf table) table′ lost ends
+        kept =
+            record {
+              table-is = ran;
+              lost-long = omega (arith, begin-room .1, g .many);
+              ends-long = omega (arith, g .passes .few, same, length-replicate {A = ℕ} 64 0);
+              lost-is = λ j l. ap (λ (L : State). L j) over;
+              ends-is = λ j l. last .each j (omega (arith, g .passes .few));
+            }
 
-      begun : Extending J (awakeOf table) short 0 0
-      unfolding extended woken
-      begun =
-          record {
-            passes = g .extendable .passes;
-            free = g .extendable .free;
-            long = set-long;
-            skeleton = ap (isSkeleton J) (g .extendable .set-is) ∙ least-is-skeleton J (g .extendable .passes);
-            short-is = missing;
-            none-before = λ i l. absurd (omega arith);
-            turns = J .horizon;
-            still = ap (λ (S : List Bool). length (wokenIn (J .horizon) J S)) (g .extendable .set-is) ∙ in-all;
-            whole = ap (λ (S : List Bool). wakeAll S (wokenIn (J .horizon) J S)) (sym (g .extendable .set-is));
-            in-all = omega (arith, in-all);
-          }
+        missing : workable J (awakeOf table) + short ≡ totalVolume J
+        missing = rw (sum, g .many) (kept-volume (g .passes) set-long kept)
 
-      pub begin-done : Begun J order lost′ ends′ table′ short
-      begin-done =
-          let same = sym (kept-set (g .extendable .passes) set-long kept) in
-          record {
-            way = subst (λ (S : List Bool). Extending J S short 0 0) same begun;
-            ranks = g .extendable .ranks;
-            kept = subst (λ (S : List Bool). Kept J S table′ lost′ ends′) same kept;
-          }
+        in-all : length (woken J (leastSkeleton J)) ≡ short
+        in-all =
+            let p = g .passes in
+            let least = ap (workable J) (g .set-is) in
+            omega (
+              arith,
+              missing,
+              least,
+              woken-count J (λ S n k v. some-slot-wakes J S p (g .free) k n v) (leastSkeleton J) (least-length J p) (least-is-skeleton J p)
+                  (workable-at-most-total J (leastSkeleton J) p (least-length J p)),
+            )
+
+        begun : Extending J (awakeOf table) short 0 0
+        unfolding extended woken
+        begun =
+            record {
+              passes = g .passes;
+              free = g .free;
+              long = set-long;
+              skeleton = ap (isSkeleton J) (g .set-is) ∙ least-is-skeleton J (g .passes);
+              short-is = missing;
+              none-before = λ i l. absurd (omega arith);
+              turns = J .horizon;
+              still = ap (λ (S : List Bool). length (wokenIn (J .horizon) J S)) (g .set-is) ∙ in-all;
+              whole = ap (λ (S : List Bool). wakeAll S (wokenIn (J .horizon) J S)) (sym (g .set-is));
+              in-all = omega (arith, in-all);
+            }
+
+        pub begin-done : Begun J releases deadlines ranks lost ends table′ short
+        begin-done =
+            let same-set = sym (kept-set (g .passes) set-long ran) in
+            record {
+              releases-are = g .releases-are;
+              deadlines-are = g .deadlines-are;
+              way = subst (λ (S : List Bool). Extending J S short 0 0) same-set begun;
+              ranked = g .ranked;
+              many = g .many;
+              kept = subst (λ (S : List Bool). Kept J S table′ lost ends) same-set kept;
+            }

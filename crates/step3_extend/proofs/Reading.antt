@@ -119,10 +119,12 @@ module _ (W : List Bool) where
         let r : suc (suc y) - 2 ≡ y = omega arith in
         f ∙ ap (awake W) r ∙ sym (woken-near W y l) ∙ ap (touches (set W (suc (suc y)) false)) (sym p)
 
-    pub woken-beside : (x : ℕ) → x < length W → x ≢ 0 → b ≡ awake W (x - 1) → b ≡ false → x ≢ 1 → c ≡ awake W (x - 2) → c ≡ true → x + 1 ≡ cursorAfter (set W x false) x
+    pub woken-beside : (x : ℕ) → x < length W → x ≢ 0 → b ≡ awake W (x - 1) → b ≡ false → x ≢ 1 → c ≡ awake W (x - 2) → c ≡ true
+        → x + 1 ≡ cursorAfter (set W x false) x
     woken-beside x l n e o m f p = cursor-near (set W x false) b c x n (before x b n e) o (near x l n m f) p
 
-    pub woken-back : (x : ℕ) → x < length W → x ≢ 0 → b ≡ awake W (x - 1) → b ≡ false → x ≢ 1 → c ≡ awake W (x - 2) → c ≡ false → x - 1 ≡ cursorAfter (set W x false) x
+    pub woken-back : (x : ℕ) → x < length W → x ≢ 0 → b ≡ awake W (x - 1) → b ≡ false → x ≢ 1 → c ≡ awake W (x - 2) → c ≡ false
+        → x - 1 ≡ cursorAfter (set W x false) x
     woken-back x l n e o m f p = cursor-back (set W x false) b c x n (before x b n e) o (near x l n m f) p
 
 -- Two tests in a row

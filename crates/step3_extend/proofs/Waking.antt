@@ -15,7 +15,7 @@ use Rattle.sched.specs.Bounded.Laws.{lt-suc, by-bool, true-not-false}
 use Rattle.sched.specs.Jobs.{Jobs, totalVolume}
 use Rattle.sched.specs.Slots.{awake, awakeOf, wakeSlot}
 use Rattle.sched.specs.Workable.{workable}
-use Rattle.sched.specs.Steps.{wakes, nextWake, wokenIn, wakeAll, extended}
+use Rattle.sched.specs.Extension.{wakeable, nextWake, wokenIn, wakeAll, extended}
 use Rattle.laws_edf.specs.Theorems.{unhelpful-stays, some-slot-wakes}
 use Rattle.laws_extension.specs.Waking.{Turn}
 use Rattle.laws_extension.specs.Waking.Laws.{wakes-turn, wake-skeleton}
@@ -30,9 +30,9 @@ unfolding leastFrom
 least-here zero t f l e = absurd (omega arith)
 least-here (suc k) t f l e = rw (e, leastFrom)
 
-next-is : (J : Jobs) (S : List Bool) (x : ℕ) → x < J .horizon → NoneBefore J S x → wakes J S x ≡ true → nextWake J S ≡ some x
+next-is : (J : Jobs) (S : List Bool) (x : ℕ) → x < J .horizon → NoneBefore J S x → wakeable J S x ≡ true → nextWake J S ≡ some x
 unfolding nextFrom
-next-is J S x l n w = sym (next-from J S x (omega arith) n) ∙ least-here (J .horizon - x) x (wakes J S) (omega arith) w
+next-is J S x l n w = sym (next-from J S x (omega arith) n) ∙ least-here (J .horizon - x) x (wakeable J S) (omega arith) w
 
 woken-next : (n : ℕ) (J : Jobs) (S : List Bool) (x : ℕ) → workable J S < totalVolume J → nextWake J S ≡ some x →
     wokenIn (suc n) J S ≡ x ∷ wokenIn n J (wakeSlot S x)
@@ -50,50 +50,39 @@ module _ {J : Jobs} {S : List Bool} {short added cursor : ℕ} (e : Extending J 
       let (x, m, w) = some-slot-wakes J S (e .passes) (e .free) (e .skeleton) (e .long) (omega (arith, e .short-is)) in
       go x m w (decLt x cursor)
     where
-      go : (x : ℕ) → x < J .horizon → wakes J S x ≡ true → Dec (x < cursor) → cursor < J .horizon
-      go x m w (yes b) = true-not-false (wakes J S x) w (e .none-before x b)
+      go : (x : ℕ) → x < J .horizon → wakeable J S x ≡ true → Dec (x < cursor) → cursor < J .horizon
+      go x m w (yes b) = true-not-false (wakeable J S x) w (e .none-before x b)
       go x m w (no b) = omega arith
+
+  -- another cursor, if no slot before it can be woken
+  moved : {t : ℕ} → NoneBefore J S t → Extending J S short added t
+  moved none =
+      record {
+        passes = e .passes;
+        free = e .free;
+        long = e .long;
+        skeleton = e .skeleton;
+        short-is = e .short-is;
+        none-before = none;
+        turns = e .turns;
+        still = e .still;
+        whole = e .whole;
+        in-all = e .in-all;
+      }
 
   -- slots that touch nothing cannot be woken
   pub way-from : {t : ℕ} → Alone S t → Extending J S short added t
-  unfolding wakes
-  way-from {t} a =
-      record {
-        passes = e .passes;
-        free = e .free;
-        long = e .long;
-        skeleton = e .skeleton;
-        short-is = e .short-is;
-        none-before = alone;
-        turns = e .turns;
-        still = e .still;
-        whole = e .whole;
-        in-all = e .in-all;
-      }
-    where
-      alone : (i : ℕ) → i < t → wakes J S i ≡ false
-      alone i l = by-bool (awake S i) (λ b. rw b) (λ b. rw (b, a .each i l))
+  unfolding wakeable
+  way-from a = moved (λ i l. by-bool (awake S i) (λ b. rw b) (λ b. rw (b, a .each i l)))
 
-  pub way-pass : wakes J S cursor ≡ false → Extending J S short added (cursor + 1)
-  way-pass v =
-      record {
-        passes = e .passes;
-        free = e .free;
-        long = e .long;
-        skeleton = e .skeleton;
-        short-is = e .short-is;
-        none-before = λ i m. past i (lt-suc (rw add-one at m));
-        turns = e .turns;
-        still = e .still;
-        whole = e .whole;
-        in-all = e .in-all;
-      }
+  pub way-pass : wakeable J S cursor ≡ false → Extending J S short added (cursor + 1)
+  way-pass v = moved (λ i m. past i (lt-suc (rw add-one at m)))
     where
-      past : (i : ℕ) → (i < cursor) ⊎ (i ≡ cursor) → wakes J S i ≡ false
+      past : (i : ℕ) → (i < cursor) ⊎ (i ≡ cursor) → wakeable J S i ≡ false
       past i (inl m) = e .none-before i m
       past i (inr q) = rw q v
 
-  module _ (l : 0 < short) (w : wakes J S cursor ≡ true) where
+  module _ (l : 0 < short) (w : wakeable J S cursor ≡ true) where
     turn : Turn J S cursor
     turn = wakes-turn J S cursor (way-inside l) w
 
@@ -102,7 +91,8 @@ module _ {J : Jobs} {S : List Bool} {short added cursor : ℕ} (e : Extending J 
 
     -- one turn less of those that are left
     less : (n : ℕ) → length (wokenIn n J S) ≡ short → extended J ≡ wakeAll S (wokenIn n J S) →
-        (m : ℕ) × (length (wokenIn m J (wakeSlot S cursor)) ≡ short - 1) × (extended J ≡ wakeAll (wakeSlot S cursor) (wokenIn m J (wakeSlot S cursor)))
+        (m : ℕ) × (length (wokenIn m J (wakeSlot S cursor)) ≡ short - 1) ×
+        (extended J ≡ wakeAll (wakeSlot S cursor) (wokenIn m J (wakeSlot S cursor)))
     unfolding wokenIn wakeAll
     less zero s h = absurd (omega arith)
     less (suc n) s h =
@@ -126,10 +116,12 @@ module _ {J : Jobs} {S : List Bool} {short added cursor : ℕ} (e : Extending J 
         }
 
 -- no turn is left
-pub way-end : {J : Jobs} {table : List ℕ} {short added cursor : ℕ} → Extending J (awakeOf table) short added cursor → short ≤ 0 → Extended J table added
+pub way-end : {J : Jobs} {table : List ℕ} {short added cursor : ℕ} → Extending J (awakeOf table) short added cursor → short ≤ 0
+    → Extended J table added
 way-end {J} {table} {short} {added} {cursor} e l =
     record {
-      set-is = sym (e .whole ∙ ap (wakeAll (awakeOf table)) (none-left (wokenIn (e .turns) J (awakeOf table)) (omega (arith, e .still))) ∙ no-turn (awakeOf table));
+      set-is = sym (e .whole ∙ ap (wakeAll (awakeOf table)) (none-left (wokenIn (e .turns) J (awakeOf table)) (omega (arith, e .still))) ∙ no-turn
+          (awakeOf table));
       added-is = omega (arith, e .in-all);
     }
   where

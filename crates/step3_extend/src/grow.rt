@@ -4,12 +4,11 @@ ghost use mathlib.Core.Path.{_≡_};
 ghost use mathlib.Core.Bool.{false, not, _&&_};
 ghost use Prim.Native.Nat.{_≤_, _<_};
 ghost use lib.ListN.{length, set};
-ghost use Rattle.sched.specs.Jobs.{jobsOf};
+ghost use Rattle.sched.specs.Jobs.{Jobs};
 ghost use Rattle.sched.specs.Slots.{awake, awakeOf, touches};
 ghost use Rattle.laws_extension.specs.Waking.Cursor.{cursorAfter};
-ghost use Rattle.step3_extend.specs.Turns.{Alone, EndBefore, Growing, Extended};
-
-const ASLEEP: u8 = 255;
+ghost use Rattle.step3_extend.specs.Turns.{Alone, EndedBefore, Growing, Extended};
+use sched::ASLEEP;
 
 fn is_awake(table: &[u8], t: usize) -> bool
     ensures { λ r. ⌜ r ≡ awake (awakeOf (now (table .entry))) t ⌝ }
@@ -81,20 +80,20 @@ fn go_on_from(table: &[u8], x: usize) -> usize
     x - 1
 }
 
-// The ranks before the answer end by slot x; `near` is where to start looking.
-fn first_due(due: &[u16], x: usize, near: usize) -> usize
-    requires { ⌜ near ≤ length (now due) ⌝ }
-    ensures { λ r. ⌜ EndBefore (now (due .entry)) x r ⌝ }
+// The first rank that is due after slot x; `near` is where to start looking.
+fn first_due_after(x: usize, deadlines: &[u16], near: usize) -> usize
+    requires { ⌜ near ≤ length (now deadlines) ⌝ }
+    ensures { λ r. ⌜ EndedBefore x (now (deadlines .entry)) r ⌝ }
 {
     let mut k = near;
-    while k < due.len() {
-        if x < due[k] as usize {
+    while k < deadlines.len() {
+        if x < deadlines[k] as usize {
             break;
         }
         k += 1;
     }
     while 0 < k {
-        if due[k - 1] as usize <= x {
+        if deadlines[k - 1] as usize <= x {
             break;
         }
         k -= 1;
@@ -102,27 +101,22 @@ fn first_due(due: &[u16], x: usize, near: usize) -> usize
     k
 }
 
-// Wakes a slot a turn, `shortfall` slots in all, and counts them.
+// Wakes a slot a turn, `shortfall` slots in all, and counts them. All lists but the table are by rank.
 pub fn grow(
-    h: u16,
-    q: u16,
     releases: &[u16],
     deadlines: &[u16],
-    volumes: &[u16],
-    from: &[u16],
-    due: &[u16],
-    order: &[u8],
+    ranks: &[u8],
     lost: &mut [u16],
     reach: &mut [u16],
     ends: &mut [u16],
     table: &mut [u8],
     shortfall: u32,
 ) -> u32
-    requires { ⌜ Growing (jobsOf h q (now releases) (now deadlines) (now volumes)) (awakeOf (now table)) (now from) (now due) (now order) (now lost) (now reach) (now ends) (now table) shortfall 0 0 ⌝ }
-    ensures { λ r. ⌜ Extended (jobsOf h q (now (releases .entry)) (now (deadlines .entry)) (now (volumes .entry))) (now (table .exit)) r ⌝ }
+    requires { ⌜ ((J : Jobs) × Growing J (now releases) (now deadlines) (now ranks) (now lost) (now reach) (now ends) (now table) shortfall 0 0) ⌝ }
+    ensures { λ r. ⌜ ((J : Jobs) → Growing J (now (releases .entry)) (now (deadlines .entry)) (now (ranks .entry)) (now (lost .entry)) (now (reach .entry)) (now (ends .entry)) (now (table .entry)) shortfall 0 0 → Extended J (now (table .exit)) r) ⌝ }
 {
-    let mut ranks = [0u8; 64];
-    let mut slots = [0u16; 64];
+    let mut takers = [0u8; 64];
+    let mut taken = [0u16; 64];
     let mut short = shortfall;
     let mut cursor = first_near(table);
     let mut first = 0;
@@ -130,18 +124,18 @@ pub fn grow(
     while 0 < short {
         let x = 'search: loop {
             if is_next(table, cursor) {
-                first = first_due(due, cursor, first);
+                first = first_due_after(cursor, deadlines, first);
                 if step3_slot::wake(
                     cursor,
                     first,
-                    from,
-                    order,
+                    releases,
+                    ranks,
                     lost,
                     reach,
                     ends,
                     table,
-                    &mut ranks,
-                    &mut slots,
+                    &mut takers,
+                    &mut taken,
                 ) {
                     break 'search cursor;
                 }

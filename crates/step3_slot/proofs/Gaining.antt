@@ -7,11 +7,12 @@ use native.Mathlib.Numerals.{add-one}
 use borrow.Author.Tests.{eq-eqb, ne-eqb}
 use lib.ListN.{getD, set}
 use lib.Seq.{getD-set-same}
-use Rattle.laws_extension.specs.Chain.{jobAt}
-use Rattle.laws_extension.specs.Chain.Ranks.{laterEnd, gainedReach, gainedAt}
+use Rattle.laws_edf.specs.Orders.{jobAt}
+use Rattle.laws_extension.specs.Chain.{laterEnd, gainedReach, gainedAt}
 use Rattle.step3_slot.specs.Books.{Gainable, Booked}
 
-module _ {k t : ℕ} {order lost reach ends table : List ℕ} (g : Gainable k t order lost reach ends table) (v : ℕ) (is : v ≡ max (getD ends k 0) (t + 1)) where
+module _ {k t : ℕ} {ranks lost reach ends table : List ℕ} (g : Gainable k t ranks lost reach ends table) (v : ℕ)
+    (is : v ≡ max (getD ends k 0) (t + 1)) where
   end-is : v ≡ laterEnd k t ends
   end-is = is ∙ rw add-one
 
@@ -19,7 +20,7 @@ module _ {k t : ℕ} {order lost reach ends table : List ℕ} (g : Gainable k t 
   left-is = getD-set-same lost k (getD lost k 0 - 1) 0 (g .in-lost)
 
   pub gained-last : getD (set lost k (getD lost k 0 - 1)) k 0 ≡ 0 →
-      Booked (gainedAt order k t table lost reach ends) (set table t (jobAt order k)) (set lost k (getD lost k 0 - 1)) (set reach k v) (set ends k v)
+      Booked (gainedAt ranks k t table lost reach ends) (set table t (jobAt ranks k)) (set lost k (getD lost k 0 - 1)) (set reach k v) (set ends k v)
   gained-last z =
       record {
         table-is = refl;
@@ -29,7 +30,7 @@ module _ {k t : ℕ} {order lost reach ends table : List ℕ} (g : Gainable k t 
       }
 
   pub gained-one : getD (set lost k (getD lost k 0 - 1)) k 0 ≢ 0 →
-      Booked (gainedAt order k t table lost reach ends) (set table t (jobAt order k)) (set lost k (getD lost k 0 - 1)) reach (set ends k v)
+      Booked (gainedAt ranks k t table lost reach ends) (set table t (jobAt ranks k)) (set lost k (getD lost k 0 - 1)) reach (set ends k v)
   gained-one f =
       record {
         table-is = refl;

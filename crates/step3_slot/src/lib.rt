@@ -2,12 +2,10 @@
 // unit hands on its last slot in turn, until a lost unit is gained. If none is, what was changed on the way is put back.
 ghost use mathlib.Core.Path.{_≡_};
 ghost use Prim.Native.Nat.{_+_, _<_, max};
-ghost use Rattle.laws_extension.specs.Chain.{endBelow};
-ghost use Rattle.laws_extension.specs.Chain.Ranks.{gainedAt};
+ghost use Rattle.laws_extension.specs.Chain.{endBelow, gainedAt};
 ghost use Rattle.step3_slot.specs.Books.{Stops, Gainable, Booked, Tryable, Attempted};
 ghost use Rattle.step3_slot.specs.Notes.{Noteable, slotHeld, Recallable, Undoable, Undone};
-
-const ASLEEP: u8 = 255;
+use sched::ASLEEP;
 
 // One more than the last slot below `below` that holds the byte; there is one, so the search needs no test for the table's start.
 fn end_below(table: &[u8], byte: u8, below: usize) -> usize
@@ -36,16 +34,16 @@ fn later(end: u16, at: usize) -> u16
 fn gain(
     k: usize,
     at: usize,
-    order: &[u8],
+    ranks: &[u8],
     lost: &mut [u16],
     reach: &mut [u16],
     ends: &mut [u16],
     table: &mut [u8],
 )
-    requires { ⌜ Gainable k at (now order) (now lost) (now reach) (now ends) (now table) ⌝ }
-    ensures { λ r. ⌜ Booked (gainedAt (now (order .entry)) k at (now (table .entry)) (now (lost .entry)) (now (reach .entry)) (now (ends .entry))) (now (table .exit)) (now (lost .exit)) (now (reach .exit)) (now (ends .exit)) ⌝ }
+    requires { ⌜ Gainable k at (now ranks) (now lost) (now reach) (now ends) (now table) ⌝ }
+    ensures { λ r. ⌜ Booked (gainedAt (now (ranks .entry)) k at (now (table .entry)) (now (lost .entry)) (now (reach .entry)) (now (ends .entry))) (now (table .exit)) (now (lost .exit)) (now (reach .exit)) (now (ends .exit)) ⌝ }
 {
-    table[at] = order[k];
+    table[at] = ranks[k];
     let end = later(ends[k], at);
     ends[k] = end;
     lost[k] -= 1;
@@ -55,14 +53,14 @@ fn gain(
 }
 
 // What the slot of note i held: it slept if the note is the first, else the rank noted before had just given it up.
-fn held(i: usize, ranks: &[u8], order: &[u8]) -> u8
-    requires { ⌜ Recallable i (now ranks) (now order) ⌝ }
-    ensures { λ r. ⌜ r ≡ slotHeld i (now (ranks .entry)) (now (order .entry)) ⌝ }
+fn held(i: usize, takers: &[u8], ranks: &[u8]) -> u8
+    requires { ⌜ Recallable i (now takers) (now ranks) ⌝ }
+    ensures { λ r. ⌜ r ≡ slotHeld i (now (takers .entry)) (now (ranks .entry)) ⌝ }
 {
     if i == 0 {
         ASLEEP
     } else {
-        order[ranks[i - 1] as usize]
+        ranks[takers[i - 1] as usize]
     }
 }
 
@@ -70,47 +68,48 @@ fn held(i: usize, ranks: &[u8], order: &[u8]) -> u8
 fn undo(
     noted: usize,
     last: usize,
+    takers: &[u8],
+    taken: &[u16],
     ranks: &[u8],
-    slots: &[u16],
-    order: &[u8],
     reach: &mut [u16],
     table: &mut [u8],
 )
-    requires { ⌜ Undoable noted last (now ranks) (now slots) (now order) (now reach) (now table) ⌝ }
-    ensures { λ r. ⌜ Undone noted last (now (ranks .entry)) (now (slots .entry)) (now (order .entry)) (now (reach .entry)) (now (table .entry)) (now (reach .exit)) (now (table .exit)) ⌝ }
+    requires { ⌜ Undoable noted last (now takers) (now taken) (now ranks) (now reach) (now table) ⌝ }
+    ensures { λ r. ⌜ Undone noted last (now (takers .entry)) (now (taken .entry)) (now (ranks .entry)) (now (reach .entry)) (now (table .entry)) (now (reach .exit)) (now (table .exit)) ⌝ }
 {
     let mut at = last;
     let mut i = noted;
     while 0 < i {
         i -= 1;
-        reach[ranks[i] as usize] = (at + 1) as u16;
-        at = slots[i] as usize;
-        table[at] = held(i, ranks, order);
+        reach[takers[i] as usize] = (at + 1) as u16;
+        at = taken[i] as usize;
+        table[at] = held(i, takers, ranks);
     }
 }
 
-// Wakes slot x if that helps, and says whether it does; no rank before `first` is asked. The two lists of notes are lent for the call only:
+// Wakes slot x if that helps, and says whether it does; no rank before `first` is asked. Releases and books go by rank. The two lists of notes,
+// the ranks that take a slot and the slots that they take, are lent for the call only:
 // what they hold at first is never read, and what they hold afterwards is left open. Lists of its own would have to be zeroed on every call.
 pub fn wake(
     x: usize,
     first: usize,
-    from: &[u16],
-    order: &[u8],
+    releases: &[u16],
+    ranks: &[u8],
     lost: &mut [u16],
     reach: &mut [u16],
     ends: &mut [u16],
     table: &mut [u8],
-    ranks: &mut [u8],
-    slots: &mut [u16],
+    takers: &mut [u8],
+    taken: &mut [u16],
 ) -> bool
-    requires { ⌜ Tryable x first (now from) (now order) (now lost) (now reach) (now ends) (now table) × Noteable (now ranks) (now slots) ⌝ }
-    ensures { λ r. ⌜ Attempted x first (now (from .entry)) (now (order .entry)) (now (lost .entry)) (now (reach .entry)) (now (ends .entry)) (now (table .entry)) r (now (lost .exit)) (now (reach .exit)) (now (ends .exit)) (now (table .exit)) ⌝ }
+    requires { ⌜ Tryable x first (now releases) (now ranks) (now lost) (now reach) (now ends) (now table) × Noteable (now takers) (now taken) ⌝ }
+    ensures { λ r. ⌜ Attempted x first (now (releases .entry)) (now (ranks .entry)) (now (lost .entry)) (now (reach .entry)) (now (ends .entry)) (now (table .entry)) r (now (lost .exit)) (now (reach .exit)) (now (ends .exit)) (now (table .exit)) ⌝ }
 {
     let mut noted = 0;
     let mut at = x;
     let mut k = first;
-    while k < from.len() {
-        if at < from[k] as usize {
+    while k < releases.len() {
+        if at < releases[k] as usize {
             k += 1;
             continue;
         }
@@ -119,18 +118,18 @@ pub fn wake(
             continue;
         }
         if 0 < lost[k] {
-            gain(k, at, order, lost, reach, ends, table);
+            gain(k, at, ranks, lost, reach, ends, table);
             return true;
         }
-        ranks[noted] = k as u8;
-        slots[noted] = at as u16;
+        takers[noted] = k as u8;
+        taken[noted] = at as u16;
         noted += 1;
-        let byte = order[k];
+        let byte = ranks[k];
         table[at] = byte;
         at = reach[k] as usize - 1;
         reach[k] = end_below(table, byte, at) as u16;
         k += 1;
     }
-    undo(noted, at, ranks, slots, order, reach, table);
+    undo(noted, at, takers, taken, ranks, reach, table);
     false
 }

@@ -1,1 +1,2 @@
+pub mod AsRun
 pub mod Running

@@ -1,2 +1,2 @@
--- What step 4 starts from.
+-- What step 4 starts from, and what it ends with.
 pub mod Filling

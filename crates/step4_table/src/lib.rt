@@ -1,25 +1,18 @@
 // Step 4: the job of each awake slot.
-ghost use mathlib.Core.Path.{_≡_};
-ghost use Rattle.sched.specs.Jobs.{jobsOf};
-ghost use Rattle.sched.specs.Slots.{awakeOf};
-ghost use Rattle.sched.specs.Steps.{tableOf};
-ghost use Rattle.queue.specs.Arrivals.{Arriving};
-ghost use Rattle.step4_table.specs.Filling.{Fillable};
+ghost use Rattle.step4_table.specs.Filling.{Fillable, Fills};
 
-// Step 4: the table of a set of awake slots in which all volume can be worked.
+// The table of a set of awake slots in which all volume can be worked.
 pub fn fill(
-    h: u16,
-    q: u16,
     releases: &[u16],
     deadlines: &[u16],
     volumes: &[u16],
-    order: &[u8],
-    soon: &[u8],
+    ranks: &[u8],
+    arrivals: &[u8],
     table: &mut [u8],
 )
-    requires { ⌜ Fillable (jobsOf h q (now releases) (now deadlines) (now volumes)) (now order) (now table) × Arriving (now releases) (now order) (now soon) ⌝ }
-    ensures { λ r. ⌜ now (table .exit) ≡ tableOf (jobsOf h q (now (releases .entry)) (now (deadlines .entry)) (now (volumes .entry))) (awakeOf (now (table .entry))) ⌝ }
+    requires { ⌜ Fillable (now releases) (now deadlines) (now volumes) (now ranks) (now arrivals) (now table) ⌝ }
+    ensures { λ r. ⌜ Fills (now (releases .entry)) (now (deadlines .entry)) (now (volumes .entry)) (now (table .entry)) (now (table .exit)) ⌝ }
 {
     let mut left = queue::units(volumes);
-    queue::run(releases, deadlines, order, soon, &mut left, table);
+    queue::run(0, releases, deadlines, ranks, arrivals, &mut left, table);
 }

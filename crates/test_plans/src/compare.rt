@@ -3,10 +3,10 @@ ghost use mathlib.Core.Path.{_≡_};
 ghost use lib.ListN.{length};
 use crate::kept::MARK;
 use crate::kept::kept;
+use sched::Outcome;
 use test_exhaustive::Small;
 use test_exhaustive::Solved;
 use test_exhaustive::digit;
-use sched::Outcome;
 
 // Counts over lists, and sums of figures over the planned ones.
 pub struct Tally {

@@ -9,7 +9,7 @@ from pictures import Answer, check_svg, check_timeline, need
 
 SEED = 20261115
 SMALL, LARGE, TEXTS, BYTES = 300, 12, 400, 200
-JOBS, SANITIZED, TABLE = sys.argv[1:4]
+JOBS, SANITIZED, ONE_CALL = sys.argv[1:4]
 
 
 def run(*command, stdin):
@@ -23,8 +23,11 @@ def fine(*command, stdin, code=0):
     return out
 
 
-def ask(data):
-    return [int(word) for word in run(TABLE, stdin=data)[1].split()]
+def ask(data, slots):
+    """What sleep_plan says, with a table of so many bytes: the number returned, the block's four numbers, the table's bytes."""
+    returned, table, block = (line.split()[1:] for line in fine(ONE_CALL, str(slots), stdin=data).decode().splitlines())
+    numbers = [int("".join(reversed(block[i:i + 4])), 16) for i in range(0, 16, 4)]
+    return [int(returned[0])] + numbers + [int(byte, 16) for byte in table]
 
 
 def try_list(rng, jobs, slots, wake, entries):
@@ -33,7 +36,7 @@ def try_list(rng, jobs, slots, wake, entries):
     need(fine(jobs, "bytes", stdin=text) == data, "the bytes of a text")
     back = fine(jobs, "text", stdin=data)
     need(fine(jobs, "bytes", stdin=back) == data, "bytes to text to bytes")
-    said = ask(data)
+    said = ask(data, slots)
     answer, code, width = Answer(slots, wake, entries, said), 0 if said[0] == 0 else 1, rng.choice([40, 60, 80, 80, 132, 5000])
     check_timeline(answer, fine(jobs, "show", "--width", str(width), stdin=text, code=code).decode(), width)
     check_svg(answer, fine(jobs, "svg", stdin=text, code=code).decode())
@@ -72,7 +75,7 @@ def sound(code, out, err, start):
 
 
 def try_damaged_bytes(data):
-    returned, place = ask(data)[:2]
+    returned, place = ask(data, 4096)[:2]
     code, out, err = run(SANITIZED, "text", stdin=data)
     sound(code, out, err, "<stdin>: ")
     need(code == (0 if returned in (0, 18) else 2), f"{returned} gives exit {code}")

@@ -1,8 +1,15 @@
 -- `read` meets its contract: the checks before the entries decide, then what fills the three lists.
 use borrow.Author.Needs.{needs}
-use Rattle.joblist.proofs.Promises.{long, fillable, read-accepted, read-refused, front-refused}
+use Rattle.joblist.proofs.Promises.{long, loadable, read-accepted, read-refused, front-refused}
 use Rattle.joblist.proofs.read.Statement.{statement}
 use Rattle.joblist.proofs.read.Tie as tie
+
+-- the start, seen from the checks before the entries, and the filling, seen from behind it
+abbrev start : tie.After-check → tie.Start
+start c = c .before .before .before .before .before
+
+abbrev filled : tie.After-slice-known6 → tie.After-fill
+filled c = c .before .before .before .before .before .before
 
 check-requires : tie.Need-check-requires
 check-requires c κs = search needs
@@ -12,18 +19,19 @@ enum-told c = search needs
 
 header-requires : tie.Need-header-requires
 header-requires c κs =
-    let k = c .before .before .check in
-    let a = c .before .before .before .before .before .before .before .args in
-    long (a .bytes .now) (a .releases .now) (a .deadlines .now) (a .volumes .now) (k .result) (k .ensures) (c .enum-told .given .1)
+    let front = c .before .before in
+    let a = start front .args in
+    long (a .bytes .now) (a .releases .now) (a .deadlines .now) (a .volumes .now) (front .check .result) (front .check .ensures)
+    (c .enum-told .given .1)
 
 fill-requires : tie.Need-fill-requires
 fill-requires c κs =
-    let o = c .before .before .before .header in
-    let e = c .before .before .before .before in
-    let k = e .before .before .check in
-    let a = e .before .before .before .before .before .before .before .args in
-    fillable (a .bytes .now) (a .releases .now) (a .deadlines .now) (a .volumes .now) (k .result) (k .ensures)
-    (e .enum-told .given .1) (o .result) (o .ensures)
+    let header = c .before .before .before in
+    let told = header .before in
+    let front = told .before .before in
+    let a = start front .args in
+    loadable (a .bytes .now) (a .releases .now) (a .deadlines .now) (a .volumes .now) (front .check .result) (front .check .ensures)
+    (told .enum-told .given .1) (header .header .result) (header .header .ensures)
 
 enum-told-2 : tie.Need-enum-told-2
 enum-told-2 c = search needs
@@ -45,13 +53,14 @@ same-length-3 c = search needs
 
 returns : tie.Need-returns
 returns c =
-    let f = c .before .before .before .before .before .before .before .before .fill in
-    let o = c .before .before .before .before .before .before .before .before .before .before .before .before .header in
-    let e = c .before .before .before .before .before .before .before .before .before .before .before .before .before in
-    let k = e .before .before .check in
-    let a = e .before .before .before .before .before .before .before .args in
-    read-accepted (a .bytes .now) (a .releases .now) (a .deadlines .now) (a .volumes .now) (k .result) (k .ensures)
-    (e .enum-told .given .1) (o .result) (o .ensures) _ _ _ (f .result) (f .ensures) (c .enum-told2 .given .1)
+    let fill = filled (c .before .before) in
+    let header = fill .before .before .before .before in
+    let told = header .before in
+    let front = told .before .before in
+    let a = start front .args in
+    read-accepted (a .bytes .now) (a .releases .now) (a .deadlines .now) (a .volumes .now) (front .check .result) (front .check .ensures)
+    (told .enum-told .given .1) (header .header .result) (header .header .ensures) _ _ _ (fill .fill .result) (fill .fill .ensures)
+    (c .enum-told2 .given .1)
 
 same-length-4 : tie.Need-same-length-4
 same-length-4 c = search needs
@@ -64,19 +73,21 @@ same-length-6 c = search needs
 
 returns-2 : tie.Need-returns-2
 returns-2 c =
-    let f = c .before .before .before .before .before .before .before .before .before .fill in
-    let o = c .before .before .before .before .before .before .before .before .before .before .before .before .before .header in
-    let e = c .before .before .before .before .before .before .before .before .before .before .before .before .before .before in
-    let k = e .before .before .check in
-    let a = e .before .before .before .before .before .before .before .args in
-    read-refused (a .bytes .now) (a .releases .now) (a .deadlines .now) (a .volumes .now) (k .result) (k .ensures)
-    (e .enum-told .given .1) (o .result) (o .ensures) _ _ _ (f .result) (f .ensures) _ (c .before .r .given .1)
+    let fill = filled (c .before .before .before) in
+    let header = fill .before .before .before .before in
+    let told = header .before in
+    let front = told .before .before in
+    let a = start front .args in
+    read-refused (a .bytes .now) (a .releases .now) (a .deadlines .now) (a .volumes .now) (front .check .result) (front .check .ensures)
+    (told .enum-told .given .1) (header .header .result) (header .header .ensures) _ _ _ (fill .fill .result) (fill .fill .ensures) _
+    (c .before .r .given .1)
 
 returns-3 : tie.Need-returns-3
 returns-3 c =
-    let k = c .before .before .before .check in
-    let a = c .before .before .before .before .before .before .before .before .args in
-    front-refused (a .bytes .now) (a .releases .now) (a .deadlines .now) (a .volumes .now) (k .result) (k .ensures) _ (c .before .r2 .given .1)
+    let front = c .before .before .before in
+    let a = start front .args in
+    front-refused (a .bytes .now) (a .releases .now) (a .deadlines .now) (a .volumes .now) (front .check .result) (front .check .ensures) _
+    (c .before .r2 .given .1)
 
 pub read-spec : {M : Type 1} → statement M
 read-spec =

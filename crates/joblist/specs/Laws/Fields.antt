@@ -1,27 +1,16 @@
 -- Fields and map bytes, written and read back, and read and written again.
-use Prim.Native.Nat.{ℕ, zero, suc, _+_, _*_, _/_, _%_, _≤_, _<_}
+use Prim.Native.Nat.{ℕ, zero, suc, _≤_, _<_}
 use mathlib.Core.Path.{_≡_, refl, ap, sym}
 use mathlib.Core.Bool.{Bool, true, false, not}
 use mathlib.Core.List.{List, [], _∷_, _++_}
 use native.Mathlib.Omega.{arith}
 use borrow.Author.Tests.{eq-eqb, eqb-true}
-use lib.ListN.{length, getD, drop}
+use lib.ListN.{length, drop}
 use lib.Dec.{eqb}
-use Rattle.joblist.specs.Bytes.{spelled, hasRelease, hasDeadline, hasVolume, mapByte, width, deadlineAt, volumeAt, entryLength, stands, bytesIf}
-use Rattle.joblist.specs.Reading.{valueIf, redundant}
-
--- each entry of a list of bytes is below 256
-abbrev pub AreBytes : List ℕ → Type 0
-AreBytes bs = (i : ℕ) → getD bs i 0 < 256
-
-pub word-spelled : (x : ℕ) → x % 256 + 256 * (x / 256) ≡ x
-word-spelled x = omega arith
-
-pub spelled-word : (x y : ℕ) → x < 256 → spelled (x + 256 * y) ≡ x ∷ y ∷ []
-spelled-word x y l =
-    let a : (x + 256 * y) % 256 ≡ x = omega arith in
-    let b : (x + 256 * y) / 256 ≡ y = omega arith in
-    rw (a, b)
+use Rattle.sched.specs.TwoBytes.Laws.{word-back, word-again}
+use Rattle.joblist.specs.Bytes.{AreBytes, hasRelease, hasDeadline, hasVolume, mapByte, width}
+use Rattle.joblist.specs.Bytes.{deadlineAt, volumeAt, entryLength, stands, bytesIf}
+use Rattle.joblist.specs.Entries.{valueIf, redundant}
 
 -- Written and read back
 
@@ -64,14 +53,14 @@ value-back absent x rest = go (eqb x absent) refl
   where
     go : (t : Bool) → eqb x absent ≡ t → valueIf (stands absent x) absent (bytesIf (stands absent x) x ++ rest) ≡ x
     go true e = rw e (sym (eqb-true x absent e))
-    go false e = rw e (word-spelled x)
+    go false e = rw e (word-back x)
 
 pub field-fresh : (absent x : ℕ) (rest : List ℕ) → redundant (stands absent x) absent (bytesIf (stands absent x) x ++ rest) ≡ false
 field-fresh absent x rest = go (eqb x absent) refl
   where
     go : (t : Bool) → eqb x absent ≡ t → redundant (stands absent x) absent (bytesIf (stands absent x) x ++ rest) ≡ false
     go true e = rw e
-    go false e = rw (e, word-spelled x, e)
+    go false e = rw (e, word-back x, e)
 
 -- Read and written again
 
@@ -96,4 +85,4 @@ field-again false absent bs w small e =
 field-again true absent [] w small e = absurd (omega arith)
 field-again true absent (x ∷ []) w small e = absurd (omega arith)
 field-again true absent (x ∷ y ∷ bs) w small e =
-    record { stands-again = ap not e; bytes-again = ap (λ (l : List ℕ). l ++ bs) (spelled-word x y (small 0)) }
+    record { stands-again = ap not e; bytes-again = ap (λ (l : List ℕ). l ++ bs) (word-again x y (small 0)) }

@@ -1,5 +1,5 @@
-use native.Mathlib.Omega.{arith}
 -- `judge::check_slot` meets its contract: the tests are those of `slotFault`, in its order.
+use native.Mathlib.Omega.{arith}
 use borrow.Author.Tests.{le-leb, lt-leb}
 use Rattle.judge.specs.Faults.Laws.{idle-passes, asleep-passes, unknown-refused, spent-refused, early-refused, late-refused, own-passes}
 use borrow.Author.Needs.{needs}

@@ -12,35 +12,35 @@ use lib.Dec.{leb, ltb}
 use Rattle.sched.specs.Jobs.{Jobs, count, release, deadline, volume}
 use Rattle.sched.specs.Slots.{times}
 use Rattle.sched.specs.Checks.{Passes, andThen}
-use Rattle.sched.specs.Checks.Laws.{unless-passed, then-passed}
+use Rattle.sched.specs.Checks.Laws.{refuse-passed, then-passed}
 use Rattle.sched.specs.Feasible.{Feasible}
 use Rattle.sched.specs.declared.Checked.{Checked}
 use Rattle.sched.specs.declared.Checked.the-variants.{Passed}
 use Rattle.sched.specs.declared.Refusal.the-variants.{TooRare}
-use Rattle.judge.specs.Times.{times-front, times-named, times-other, times-none}
-use Rattle.judge.specs.Faults.{spentIn, slotCheck, slotsFrom, rareFrom, tableCheck}
+use Rattle.sched.specs.Slots.Laws.{times-front, times-named, times-unnamed, times-none}
+use Rattle.judge.specs.Faults.{spentIn, slotFault, slotCheck, slotsFrom, rareFrom, faultsBy, faultsCheck}
 use Rattle.judge.specs.Faults.Laws.{GoodSlot, slot-good, good-passes}
 
 -- all slots, and all jobs, pass where each one does
 
 module _ (rs ds ps table : List ℕ) where
-  slots-each : (k t : ℕ) → slotsFrom k t rs ds ps table ≡ Passed → (i : ℕ) → t ≤ i → i < t + k → slotCheck rs ds ps table i ≡ Passed
+  slots-each : (k t : ℕ) → slotsFrom slotFault k t rs ds ps table ≡ Passed → (i : ℕ) → t ≤ i → i < t + k → slotCheck slotFault rs ds ps table i ≡ Passed
   unfolding slotsFrom
   slots-each zero t e i a b = absurd (omega arith)
   slots-each (suc k) t e i a b = go (ℕ-discrete i t) (slots-each k (suc t) (both .1) i)
     where
-      both : (slotCheck rs ds ps table t ≡ Passed) × (slotsFrom k (suc t) rs ds ps table ≡ Passed)
-      both = then-passed (slotCheck rs ds ps table t) (slotsFrom k (suc t) rs ds ps table) e
+      both : (slotCheck slotFault rs ds ps table t ≡ Passed) × (slotsFrom slotFault k (suc t) rs ds ps table ≡ Passed)
+      both = then-passed (slotCheck slotFault rs ds ps table t) (slotsFrom slotFault k (suc t) rs ds ps table) e
 
-      go : Dec (i ≡ t) → (suc t ≤ i → i < suc t + k → slotCheck rs ds ps table i ≡ Passed) → slotCheck rs ds ps table i ≡ Passed
+      go : Dec (i ≡ t) → (suc t ≤ i → i < suc t + k → slotCheck slotFault rs ds ps table i ≡ Passed) → slotCheck slotFault rs ds ps table i ≡ Passed
       go (yes q) ih = rw q (both .0)
       go (no n) ih = ih (omega arith) (omega arith)
 
-  slots-all : (k t : ℕ) → ((i : ℕ) → t ≤ i → i < t + k → slotCheck rs ds ps table i ≡ Passed) → slotsFrom k t rs ds ps table ≡ Passed
+  slots-all : (k t : ℕ) → ((i : ℕ) → t ≤ i → i < t + k → slotCheck slotFault rs ds ps table i ≡ Passed) → slotsFrom slotFault k t rs ds ps table ≡ Passed
   unfolding slotsFrom
   slots-all zero t each = refl
   slots-all (suc k) t each =
-      ap (λ (c : Checked). andThen c (slotsFrom k (suc t) rs ds ps table)) (each t (omega arith) (omega arith))
+      ap (λ (c : Checked). andThen c (slotsFrom slotFault k (suc t) rs ds ps table)) (each t (omega arith) (omega arith))
       ∙ slots-all k (suc t) (λ i a b. each i (omega arith) (omega arith))
 
 module _ (named : ℕ → ℕ) (ps : List ℕ) where
@@ -50,7 +50,7 @@ module _ (named : ℕ → ℕ) (ps : List ℕ) where
   rare-each (suc k) j e i a b = go (ℕ-discrete i j) (rare-each k (suc j) (both .1) i)
     where
       both : (ltb (named j) (getD ps j 0) ≡ false) × (rareFrom k (suc j) named ps ≡ Passed)
-      both = unless-passed (ltb (named j) (getD ps j 0)) (TooRare j) (rareFrom k (suc j) named ps) e
+      both = refuse-passed (ltb (named j) (getD ps j 0)) (TooRare j) (rareFrom k (suc j) named ps) e
 
       go : Dec (i ≡ j) → (suc j ≤ i → i < suc j + k → getD ps i 0 ≤ named i) → getD ps i 0 ≤ named i
       go (yes q) ih = rw q (ltb-false (named j) (getD ps j 0) (both .0))
@@ -79,12 +79,12 @@ module _ (J : Jobs) (table : List ℕ) (p : Passes J) (long : length table ≡ J
       go (yes q) ih =
           let unspent : leb (volume J j) (times j (take t table)) ≡ false = rw q at (good t (omega arith) .unspent (rw q m)) in
           omega (arith, leb-false (volume J j) (times j (take t table)) unspent, times-named j t table (omega arith) q)
-      go (no n) ih = omega (arith, times-other j t table (omega arith) n)
+      go (no n) ih = omega (arith, times-unnamed j t table (omega arith) n)
 
-  pub faultless-feasible : tableCheck (J .releases) (J .deadlines) (J .volumes) table ≡ Passed → Feasible J table
-  unfolding tableCheck
+  pub faultless-feasible : faultsCheck (J .releases) (J .deadlines) (J .volumes) table ≡ Passed → Feasible J table
+  unfolding faultsBy
   faultless-feasible e =
-      let both = then-passed (slotsFrom (length table) 0 (J .releases) (J .deadlines) (J .volumes) table) (rareFrom (count J) 0 (λ j. times j table) (J .volumes)) e in
+      let both = then-passed (slotsFrom slotFault (length table) 0 (J .releases) (J .deadlines) (J .volumes) table) (rareFrom (count J) 0 (λ j. times j table) (J .volumes)) e in
       let good : (t : ℕ) → t < length table → GoodAt t = λ t l. slot-good (count J) (release J (getD table t 0)) (deadline J (getD table t 0)) t (getD table t 0) (spentIn (J .volumes) (take t table) (getD table t 0)) (slots-each (J .releases) (J .deadlines) (J .volumes) table (length table) 0 (both .0) t (omega arith) (omega arith)) in
       record {
         long = long;
@@ -96,8 +96,8 @@ module _ (J : Jobs) (table : List ℕ) (p : Passes J) (long : length table ≡ J
             omega (arith, rare-each (λ i. times i table) (J .volumes) (count J) 0 (both .1) j (omega arith) (omega arith));
       }
 
-  pub feasible-faultless : Feasible J table → tableCheck (J .releases) (J .deadlines) (J .volumes) table ≡ Passed
-  unfolding tableCheck
+  pub feasible-faultless : Feasible J table → faultsCheck (J .releases) (J .deadlines) (J .volumes) table ≡ Passed
+  unfolding faultsBy
   feasible-faultless f =
       ap (λ (c : Checked). andThen c (rareFrom (count J) 0 (λ j. times j table) (J .volumes)))
       (slots-all (J .releases) (J .deadlines) (J .volumes) table (length table) 0 (λ t a b. slot t (omega arith)))
@@ -111,7 +111,7 @@ module _ (J : Jobs) (table : List ℕ) (p : Passes J) (long : length table ≡ J
       left t l m =
           omega (arith, times-named (getD table t 0) t table l refl, times-front (getD table t 0) (suc t) table, f .exact (getD table t 0) m)
 
-      slot : (t : ℕ) → t < length table → slotCheck (J .releases) (J .deadlines) (J .volumes) table t ≡ Passed
+      slot : (t : ℕ) → t < length table → slotCheck slotFault (J .releases) (J .deadlines) (J .volumes) table t ≡ Passed
       slot t l =
           good-passes (count J) (release J (getD table t 0)) (deadline J (getD table t 0)) t (getD table t 0) (spentIn (J .volumes) (take t table) (getD table t 0)) (p .few)
           (record {

@@ -7,8 +7,8 @@ use native.Mathlib.Omega.{arith}
 use borrow.Author.Tests.{le-leb, lt-leb, lt-ltb, le-ltb, eq-eqb, ne-eqb, leb-false, ltb-false, eqb-true, not-false}
 use lib.Dec.{leb, ltb, eqb}
 use Rattle.sched.specs.Bounded.Laws.{by-bool, true-not-false, or-false}
-use Rattle.sched.specs.Checks.{unless}
-use Rattle.sched.specs.Checks.Laws.{unless-passed}
+use Rattle.sched.specs.Checks.{refuseIf}
+use Rattle.sched.specs.Checks.Laws.{refuse-passed}
 use Rattle.sched.specs.declared.Checked.the-variants.{Passed, Refused}
 use Rattle.sched.specs.declared.Refusal.the-variants.{BadByte, TooOften, OutOfSpan}
 use Rattle.judge.specs.Faults.{slotFault}
@@ -59,9 +59,9 @@ module _ (n r d t byte : ℕ) (spent : Bool) where
 
   pub slot-good : slotFault n r d t byte spent ≡ Passed → GoodSlot n r d t byte spent
   slot-good e =
-      let a = unless-passed (leb n byte && not (eqb byte 254) && not (eqb byte 255)) (BadByte t) (unless (ltb byte n && spent) (TooOften t) (unless (ltb byte n && (ltb t r || leb d t)) (OutOfSpan t) Passed)) e in
-      let b = unless-passed (ltb byte n && spent) (TooOften t) (unless (ltb byte n && (ltb t r || leb d t)) (OutOfSpan t) Passed) (a .1) in
-      let c = unless-passed (ltb byte n && (ltb t r || leb d t)) (OutOfSpan t) Passed (b .1) in
+      let a = refuse-passed (leb n byte && not (eqb byte 254) && not (eqb byte 255)) (BadByte t) (refuseIf (ltb byte n && spent) (TooOften t) (refuseIf (ltb byte n && (ltb t r || leb d t)) (OutOfSpan t) Passed)) e in
+      let b = refuse-passed (ltb byte n && spent) (TooOften t) (refuseIf (ltb byte n && (ltb t r || leb d t)) (OutOfSpan t) Passed) (a .1) in
+      let c = refuse-passed (ltb byte n && (ltb t r || leb d t)) (OutOfSpan t) Passed (b .1) in
       let span : byte < n → (ltb t r ≡ false) × (leb d t ≡ false) = λ l. or-false (ltb t r) (leb d t) (and-false (ltb byte n) (ltb t r || leb d t) (c .0) (lt-ltb byte n l)) in
       record {
         known = known-byte (a .0);

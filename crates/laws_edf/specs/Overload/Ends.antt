@@ -13,7 +13,7 @@ use Rattle.sched.specs.Jobs.{Jobs, count, release, deadline, volume}
 use Rattle.sched.specs.Checks.{Passes}
 use Rattle.sched.specs.Overload.{volumeIf, volumeInside}
 use Rattle.sched.specs.declared.Interval.{Interval}
-use Rattle.laws_edf.specs.Overload.{Overfull, Shown}
+use Rattle.sched.specs.Overload.{Overfull, Shown}
 
 -- the volume of a job counts inside a..b, or not
 

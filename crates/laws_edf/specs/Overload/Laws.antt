@@ -8,11 +8,12 @@ use native.Mathlib.Decide.{decLt}
 use borrow.Author.Tests.{ltb-true, leb-true, lt-ltb, le-leb}
 use lib.Dec.{leb, ltb}
 use Rattle.sched.specs.Bounded.{anyBelow, leastFrom, lastBelow}
-use Rattle.sched.specs.Bounded.Laws.{by-bool, true-not-false, and-true, any-intro, any-elim, Least, least-some, least-none, Last, last-some, last-none}
+use Rattle.sched.specs.Bounded.Laws.{by-bool, true-not-false, and-true, any-intro, any-elim, LeastIn, least-some, least-none, Last, last-some, last-none}
 use Rattle.sched.specs.Jobs.{Jobs}
 use Rattle.sched.specs.Overload.{overloaded, volumeInside, overloadEndingAt, shownOverload}
 use Rattle.sched.specs.declared.Interval.{Interval}
-use Rattle.laws_edf.specs.Overload.{Overfull, Shown, Shows}
+use Rattle.sched.specs.Overload.{Overfull, Shown}
+use Rattle.laws_edf.specs.Overload.{ShowsAll}
 
 module _ (J : Jobs) where
   pub overfull : (a b : ℕ) → overloaded J a b ≡ true → Overfull J a b
@@ -38,7 +39,7 @@ module _ (J : Jobs) where
   unfolding endsAt
   ends-at a b o = any-intro b _ a (o .span) (overfull-overloaded a b o)
 
-  shows-start : (b : ℕ) → Least 1 (J .horizon) endsAt b → (o : Option ℕ) → lastBelow b (λ a. overloaded J a b) ≡ o → Shows J (elim o [ none ↦ none | some a ↦ some (record { a = a; b = b }) ])
+  shows-start : (b : ℕ) → LeastIn 1 (J .horizon) endsAt b → (o : Option ℕ) → lastBelow b (λ a. overloaded J a b) ≡ o → ShowsAll J (elim o [ none ↦ none | some a ↦ some (record { a = a; b = b }) ])
   unfolding endsAt
   shows-start b first none e =
       let r = any-elim b _ (first .holds) in
@@ -62,16 +63,16 @@ module _ (J : Jobs) where
           go (yes m) = true-not-false (overloaded J x b) (overfull-overloaded x b o) (l .last x m (o .span))
           go (no m) = omega arith
 
-  pub shows : Shows J (shownOverload J)
+  pub shows : ShowsAll J (shownOverload J)
   unfolding shownOverload overloadEndingAt endsAt
   shows = go (leastFrom (J .horizon) 1 endsAt) refl
     where
-      go : (o : Option ℕ) → leastFrom (J .horizon) 1 endsAt ≡ o → Shows J (elim o [ none ↦ none | some b ↦ overloadEndingAt J b ])
+      go : (o : Option ℕ) → leastFrom (J .horizon) 1 endsAt ≡ o → ShowsAll J (elim o [ none ↦ none | some b ↦ overloadEndingAt J b ])
       go none e = λ a b o. true-not-false (endsAt b) (ends-at a b o) (least-none (J .horizon) 1 endsAt e b (omega (arith, o .span)) (omega (arith, o .within)))
       go (some b) e = shows-start b (least-some (J .horizon) 1 endsAt b e) (lastBelow b (λ a. overloaded J a b)) refl
 
   -- only one answer says what holds
-  pub shows-one : (o p : Option Interval) → Shows J o → Shows J p → o ≡ p
+  pub shows-one : (o p : Option Interval) → ShowsAll J o → ShowsAll J p → o ≡ p
   shows-one none none x y = refl
   shows-one none (some j) x y = absurd (x (j .a) (j .b) (y .over))
   shows-one (some i) none x y = absurd (y (i .a) (i .b) (x .over))
@@ -87,11 +88,7 @@ module _ (J : Jobs) where
       same = λ k. record { a = ea k; b = eb k }
 
   pub shown-none : shownOverload J ≡ none → (a b : ℕ) → overloaded J a b ≡ false
-  shown-none e a b = not-overfull a b ((subst (Shows J) e shows) a b)
-
-  pub none-shown : ((a b : ℕ) → overloaded J a b ≡ false) → shownOverload J ≡ none
-  none-shown h =
-      shows-one (shownOverload J) none shows (λ a b o. true-not-false (overloaded J a b) (overfull-overloaded a b o) (h a b))
+  shown-none e a b = not-overfull a b ((subst (ShowsAll J) e shows) a b)
 
   pub shown-some : (i : Interval) → shownOverload J ≡ some i → Shown J i
-  shown-some i e = subst (Shows J) e shows
+  shown-some i e = subst (ShowsAll J) e shows

@@ -7,10 +7,9 @@ use mathlib.Core.List.{List, [], _∷_, map}
 use mathlib.Core.Option.{Option, none, some}
 use lib.Dec.{leb, ltb}
 use Rattle.sched.specs.Jobs.{Jobs, count, release, deadline, volume}
-use Rattle.sched.specs.declared.Interval.{Interval}
 use Rattle.sched.specs.Bounded.{total}
 use Rattle.sched.specs.Overload.{volumeIf, volumeInside}
-use Rattle.laws_edf.specs.Overload.{Overfull}
+use Rattle.sched.specs.Overload.{Overfull}
 use Rattle.laws_edf.specs.Overload.Order.{AtMost, Falling}
 pub mod Laws
 

@@ -1,36 +1,19 @@
 -- Two runs one unit of a job apart serve the same jobs as long as the run that has the unit keeps one of that job.
 use Prim.Native.Nat.{ℕ, suc, _≤_, _<_}
 use mathlib.Core.Path.{_≡_, refl, ap, sym, _∙_}
-use mathlib.Core.Bool.{Bool, true}
+use mathlib.Core.Bool.{Bool}
 use mathlib.Core.Option.{Option, none, some}
 use mathlib.Core.Logic.{_⊎_, inl, inr}
 use native.Mathlib.Omega.{arith}
 use native.Mathlib.Decide.{ℕ-discrete, le-ind}
 use Rattle.sched.specs.Bounded.Laws.{lt-suc}
 use Rattle.laws_edf.specs.Run.{Spans, State, Eligible, chosen, lowered, after, slotByte, left}
-use Rattle.laws_edf.specs.Pick.{Chosen, View, view}
+use Rattle.laws_edf.specs.Pick.{first-unique, View, view}
 use Rattle.laws_edf.specs.Units.{OneMore, lowered-there, lowered-elsewhere, both-lowered, less-everywhere}
-use Rattle.laws_edf.specs.Apart.{first-unique, eligible-with}
+use Rattle.laws_edf.specs.Apart.{eligible-with}
 use Rattle.laws_edf.specs.Left.{left-falls}
 use Rattle.laws_edf.specs.OneSlotMore.{Extra, before-extra}
 use Rattle.laws_extension.specs.Chain.Served.{served, byteOf}
-
--- what a slot serves is known from what is eligible
-
-module _ (F : Spans) (t : ℕ) (L : State) where
-  chosen-by : (k : ℕ) (o : Option ℕ) → Chosen F t L k → View F true t L o → o ≡ some k
-  chosen-by k none c v = absurd (v refl k (c .able))
-  chosen-by k (some m) c v = ap some (first-unique (F .d) m k (v .1 .first k (c .able)) (c .first m (v .1 .able)))
-
-  pub chosen-is : (k : ℕ) → Chosen F t L k → chosen F true t L ≡ some k
-  chosen-is k c = chosen-by k (chosen F true t L) c (view F true t L)
-
-  none-by : (o : Option ℕ) → ((j : ℕ) → Eligible F t L j → ⊥) → View F true t L o → o ≡ none
-  none-by none f v = refl
-  none-by (some m) f v = absurd (f m (v .1 .able))
-
-  pub chosen-none : ((j : ℕ) → Eligible F t L j → ⊥) → chosen F true t L ≡ none
-  chosen-none f = none-by (chosen F true t L) f (view F true t L)
 
 module _ (F : Spans) (b : Bool) (t k : ℕ) (M L : State) (o : OneMore k M L) where
   more : (j : ℕ) → Eligible F t L j → Eligible F t M j
@@ -53,11 +36,11 @@ module _ (F : Spans) (b : Bool) (t k : ℕ) (M L : State) (o : OneMore k M L) wh
       ap some
       (first-unique (F .d) m l (v .1 .first l (more l (w .1 .able))) (w .1 .first m (still m (v .1 .able) u)))
 
-  pub alike : 0 < after M (chosen F b t M) k → chosen F b t M ≡ chosen F b t L
+  alike : 0 < after M (chosen F b t M) k → chosen F b t M ≡ chosen F b t L
   alike u = alike-by (chosen F b t M) (chosen F b t L) (view F b t M) (view F b t L) u
 
   -- the unit stays the only difference
-  pub still-apart : (x : Option ℕ) → 0 < after M x k → OneMore k (after M x) (after L x)
+  still-apart : (x : Option ℕ) → 0 < after M x k → OneMore k (after M x) (after L x)
   still-apart none u = o
   still-apart (some m) u = go (ℕ-discrete m k)
     where

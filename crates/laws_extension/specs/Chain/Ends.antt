@@ -1,10 +1,10 @@
 -- The last slot that holds a byte: searching for it downwards, and keeping it after a store.
 use Prim.Native.Nat.{ℕ, zero, suc, _-_, _≤_, _<_, max}
-use mathlib.Core.Path.{_≡_, refl, sym, _∙_}
+use mathlib.Core.Path.{_≡_, refl, ap, sym, _∙_}
 use mathlib.Core.List.{List}
 use mathlib.Core.Logic.{_⊎_, inl, inr, _≢_}
 use native.Mathlib.Omega.{arith}
-use native.Mathlib.Decide.{ℕ-discrete, decLt}
+use native.Mathlib.Decide.{ℕ-discrete}
 use borrow.Author.Tests.{eq-eqb, ne-eqb}
 use lib.ListN.{length, getD, set}
 use lib.Seq.{getD-set-same, getD-set-other, set-getD}
@@ -73,81 +73,73 @@ ends-below j (suc s) table = go (ℕ-discrete (getD table s 0) j) (ends-below j 
         high t l (inl m) = c .last t l m
         high t l (inr q) = rw q f
 
-pub ends-unique : (j s : ℕ) (table : List ℕ) (e f : ℕ) → Ends j s table e → Ends j s table f → e ≡ f
-ends-unique j s table zero zero a b = refl
-ends-unique j s table zero (suc f) a b = absurd (a .last f (omega arith) (omega (arith, b .within)) (b .holds f refl))
-ends-unique j s table (suc e) zero a b = absurd (b .last e (omega arith) (omega (arith, a .within)) (a .holds e refl))
-ends-unique j s table (suc e) (suc f) a b = go (decLt e f) (decLt f e)
+-- Where a slot takes another byte
+
+-- tables with the same byte in slot s
+end-turn : (j s : ℕ) (a b : List ℕ) → getD a s 0 ≡ getD b s 0 → endBelow j s a ≡ endBelow j s b → endBelow j (suc s) a ≡ endBelow j (suc s) b
+end-turn j s a b e below = go (ℕ-discrete (getD b s 0) j)
   where
-    go : Dec (e < f) → Dec (f < e) → suc e ≡ suc f
-    go (yes l) _ = absurd (a .last f l (omega (arith, b .within)) (b .holds f refl))
-    go (no _) (yes l) = absurd (b .last e l (omega (arith, a .within)) (a .holds e refl))
-    go (no l) (no m) = omega arith
+    go : Dec (getD b s 0 ≡ j) → endBelow j (suc s) a ≡ endBelow j (suc s) b
+    go (yes q) = end-here j s a (e ∙ q) ∙ sym (end-here j s b q)
+    go (no f) = end-lower j s a (λ q. f (sym e ∙ q)) ∙ below ∙ sym (end-lower j s b f)
 
-pub end-is : (j s : ℕ) (table : List ℕ) (e : ℕ) → Ends j s table e → e ≡ endBelow j s table
-end-is j s table e c = ends-unique j s table e (endBelow j s table) c (ends-below j s table)
+module _ (table : List ℕ) (t : ℕ) (inside : t < length table) where
+  there : (v s : ℕ) → s ≡ t → getD (set table t v) s 0 ≡ v
+  there v s e = rw e (getD-set-same table t v 0 inside)
 
--- Only the slots below s count, and of those only whether they hold j.
-pub ends-alike : (j s : ℕ) (a b : List ℕ) (e : ℕ) →
-    ((t : ℕ) → t < s → getD a t 0 ≡ j → getD b t 0 ≡ j) → ((t : ℕ) → t < s → getD b t 0 ≡ j → getD a t 0 ≡ j) → Ends j s a e → Ends j s b e
-ends-alike j s a b e to back c =
-    record {
-      within = c .within;
-      holds = λ t q. to t (omega (arith, c .within)) (c .holds t q);
-      last = λ t l m h. c .last t l m (back t m h);
-    }
+  aside : (v s : ℕ) → s ≢ t → getD (set table t v) s 0 ≡ getD table s 0
+  aside v s f = getD-set-other table t s v 0 f
 
--- Slot t, which holds no job, takes job j; and slot w, which job j gives up for it, is left blank.
+  end-under : (j v s : ℕ) → s ≤ t → endBelow j s (set table t v) ≡ endBelow j s table
+  unfolding endBelow
+  end-under j v zero l = refl
+  end-under j v (suc s) l = end-turn j s (set table t v) table (aside v s (omega arith)) (end-under j v s (omega arith))
 
-module _ (h : ℕ) (table : List ℕ) (long : length table ≡ h) (blank j t : ℕ) (inside : t < h) where
-  stored : (v : ℕ) → getD (set table t v) t 0 ≡ v
-  stored v = getD-set-same table t v 0 (omega arith)
-
-  aside : (v u : ℕ) → u ≢ t → getD (set table t v) u 0 ≡ getD table u 0
-  aside v u f = getD-set-other table t u v 0 f
-
-  -- the end of j itself
-  pub ends-gained : blank ≢ j → (e : ℕ) → Ends j h (set table t blank) e → Ends j h (set table t j) (max e (suc t))
-  ends-gained f e c =
-      record {
-        within = omega (arith, c .within);
-        holds = λ u q. holds u q (ℕ-discrete u t);
-        last = λ u l m q. c .last u (omega arith) m (aside blank u (omega arith) ∙ sym (aside j u (omega arith)) ∙ q);
-      }
+  -- the end of a job whose byte is neither of the two
+  pub end-kept : (j v w : ℕ) → j ≢ v → j ≢ w → (h : ℕ) → endBelow j h (set table t v) ≡ endBelow j h (set table t w)
+  unfolding endBelow
+  end-kept j v w f g zero = refl
+  end-kept j v w f g (suc s) = go (ℕ-discrete s t) (end-kept j v w f g s)
     where
-      holds : (u : ℕ) → max e (suc t) ≡ suc u → Dec (u ≡ t) → getD (set table t j) u 0 ≡ j
-      holds u q (yes i) = rw i (stored j)
-      holds u q (no g) = aside j u g ∙ sym (aside blank u g) ∙ c .holds u (omega arith)
+      go : Dec (s ≡ t) → endBelow j s (set table t v) ≡ endBelow j s (set table t w) →
+          endBelow j (suc s) (set table t v) ≡ endBelow j (suc s) (set table t w)
+      go (yes e) ih =
+          end-lower j s (set table t v) (λ q. f (sym q ∙ there v s e)) ∙ ih ∙ sym (end-lower j s (set table t w) (λ q. g (sym q ∙ there w s e)))
+      go (no e) ih = end-turn j s (set table t v) (set table t w) (aside v s e ∙ sym (aside w s e)) ih
 
-  -- the ends of other jobs
-  pub ends-kept : (i : ℕ) → i ≢ j → i ≢ blank → (e : ℕ) → Ends i h (set table t blank) e → Ends i h (set table t j) e
-  ends-kept i f g e c =
-      ends-alike i h (set table t blank) (set table t j) e (λ u l q. to u q (ℕ-discrete u t)) (λ u l q. back u q (ℕ-discrete u t)) c
+  -- slot t, which was blank, takes job j
+  pub end-gained : (j blank : ℕ) → blank ≢ j → (h : ℕ) → t < h → endBelow j h (set table t j) ≡ max (endBelow j h (set table t blank)) (suc t)
+  end-gained j blank f zero l = absurd (omega arith)
+  end-gained j blank f (suc s) l = go (ℕ-discrete s t) (ℕ-discrete (getD table s 0) j) (λ m. end-gained j blank f s m)
     where
-      to : (u : ℕ) → getD (set table t blank) u 0 ≡ i → Dec (u ≡ t) → getD (set table t j) u 0 ≡ i
-      to u q (yes a) = let w : getD (set table t blank) t 0 ≡ i = rw a at q in absurd (g (sym w ∙ stored blank))
-      to u q (no a) = aside j u a ∙ sym (aside blank u a) ∙ q
+      go : Dec (s ≡ t) → Dec (getD table s 0 ≡ j) → (t < s → endBelow j s (set table t j) ≡ max (endBelow j s (set table t blank)) (suc t)) →
+          endBelow j (suc s) (set table t j) ≡ max (endBelow j (suc s) (set table t blank)) (suc t)
+      go (yes e) _ ih =
+          rw (end-here j s (set table t j) (there j s e), end-lower j s (set table t blank) (λ q. f (sym (there blank s e) ∙ q)))
+          (omega (arith, ends-below j s (set table t blank) .within))
+      go (no e) (yes q) ih =
+          rw (end-here j s (set table t j) (aside j s e ∙ q), end-here j s (set table t blank) (aside blank s e ∙ q)) (omega arith)
+      go (no e) (no g) ih =
+          rw (end-lower j s (set table t j) (λ q. g (sym (aside j s e) ∙ q)), end-lower j s (set table t blank) (λ q. g (sym (aside blank s e) ∙ q)))
+          (ih (omega arith))
 
-      back : (u : ℕ) → getD (set table t j) u 0 ≡ i → Dec (u ≡ t) → getD (set table t blank) u 0 ≡ i
-      back u q (yes a) = let w : getD (set table t j) t 0 ≡ i = rw a at q in absurd (f (sym w ∙ stored j))
-      back u q (no a) = aside blank u a ∙ sym (aside j u a) ∙ q
-
--- slot w, the last of job j, is left blank
-module _ (h : ℕ) (table : List ℕ) (long : length table ≡ h) (blank j w : ℕ) (inside : w < h) where
-  pub ends-blank : blank ≢ j → Ends j h table (suc w) → Ends j h (set table w blank) (endBelow j w table)
-  ends-blank f c =
-      let b = ends-below j w table in
-      record {
-        within = omega (arith, b .within);
-        holds = λ u q. getD-set-other table w u blank 0 (omega (arith, b .within)) ∙ b .holds u q;
-        last = λ u l m. go u l m (decLt u w) (decLt w u);
-      }
+  -- slot t, the last of job j, is left blank
+  pub end-blank : (j blank : ℕ) → blank ≢ j → (h : ℕ) → endBelow j h table ≡ suc t → endBelow j t table ≡ endBelow j h (set table t blank)
+  unfolding endBelow
+  end-blank j blank f zero top = absurd (omega arith)
+  end-blank j blank f (suc s) top = go (ℕ-discrete (getD table s 0) j) (λ e. end-blank j blank f s e)
     where
-      go : (u : ℕ) → endBelow j w table ≤ u → u < h → Dec (u < w) → Dec (w < u) → getD (set table w blank) u 0 ≢ j
-      go u l m (yes a) _ = λ q. ends-below j w table .last u l a (sym (getD-set-other table w u blank 0 (omega arith)) ∙ q)
-      go u l m (no a) (yes b) = λ q. c .last u b m (sym (getD-set-other table w u blank 0 (omega arith)) ∙ q)
-      go u l m (no a) (no b) = let e : u ≡ w = omega arith in rw e (λ q. f (sym (getD-set-same table w blank 0 (omega arith)) ∙ q))
+      go : Dec (getD table s 0 ≡ j) → (endBelow j s table ≡ suc t → endBelow j t table ≡ endBelow j s (set table t blank)) →
+          endBelow j t table ≡ endBelow j (suc s) (set table t blank)
+      go (yes q) ih =
+          let e : s ≡ t = omega (arith, end-here j s table q) in
+          rw (end-lower j s (set table t blank) (λ q. f (sym (there blank s e) ∙ q)), e) (sym (end-under j blank t (omega arith)))
+      go (no g) ih =
+          let low = sym (end-lower j s table g) ∙ top in
+          let e : s ≢ t = omega (arith, ends-below j s table .within) in
+          ih low ∙ sym (end-lower j s (set table t blank) (λ q. g (sym (aside blank s e) ∙ q)))
 
-  pub ends-unblanked : (i : ℕ) → i ≢ j → i ≢ blank → getD table w 0 ≡ j → (e : ℕ) → Ends i h table e → Ends i h (set table w blank) e
-  ends-unblanked i f g v e c =
-      ends-kept h table long j blank w inside i g f e (rw (← v, set-getD table w 0) c)
+  pub end-unblanked : (j blank h : ℕ) → endBelow j h table ≡ suc t → (i : ℕ) → i ≢ j → i ≢ blank → endBelow i h table ≡ endBelow i h (set table t blank)
+  end-unblanked j blank h top i f g =
+      let held = ends-below j h table .holds t top in
+      ap (endBelow i h) (sym (set-getD table t 0) ∙ ap (set table t) held) ∙ end-kept i j blank f g h

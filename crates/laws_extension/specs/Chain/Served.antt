@@ -53,10 +53,10 @@ module _ (F : Spans) (S : ℕ → Bool) (p : State) where
   pub serves-byte : (t j : ℕ) → served F S p t ≡ some j → byteOf F S p t ≡ j
   serves-byte t j e = byte-of-job F (S t) t (left F S p t) j (served F S p t) (view F (S t) t (left F S p t)) e
 
-  pub byte-serves : F .n ≤ 254 → (t j : ℕ) → j < F .n → byteOf F S p t ≡ j → served F S p t ≡ some j
+  byte-serves : F .n ≤ 254 → (t j : ℕ) → j < F .n → byteOf F S p t ≡ j → served F S p t ≡ some j
   byte-serves few t j l e = job-of-byte F (S t) t (left F S p t) j few l (S t) refl (served F S p t) e
 
-  pub unserved-keeps : (t j : ℕ) → served F S p t ≢ some j → left F S p (suc t) j ≡ left F S p t j
+  unserved-keeps : (t j : ℕ) → served F S p t ≢ some j → left F S p (suc t) j ≡ left F S p t j
   unfolding left
   unserved-keeps t j f = kept-where-other F (S t) t (left F S p t) j (served F S p t) f
 
@@ -102,3 +102,10 @@ module _ {F : Spans} {S : ℕ → Bool} {p : State} {H j e : ℕ} where
       go : (f : ℕ) → e ≡ f → t < f → 0 < left F S p t j
       go zero q m = absurd (omega arith)
       go (suc s) q m = omega (arith, served-less F S p s j (c .serves s q), left-falls F S p t s j (omega arith))
+
+  pub last-in-time : LastServed F S p H j e → e ≤ F .d j
+  last-in-time c = go e refl
+    where
+      go : (f : ℕ) → e ≡ f → f ≤ F .d j
+      go zero q = omega arith
+      go (suc t) q = served-first F S p t j (c .serves t q) .1 .able .before

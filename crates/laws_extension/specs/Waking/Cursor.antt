@@ -10,13 +10,13 @@ use Rattle.sched.specs.Bounded.{leastFrom}
 use Rattle.sched.specs.Jobs.{Jobs, totalVolume}
 use Rattle.sched.specs.Slots.{awake, touches, wakeSlot}
 use Rattle.sched.specs.Workable.{workable}
-use Rattle.sched.specs.Steps.{helps, wakes}
+use Rattle.sched.specs.Extension.{helps, wakeable}
 pub mod Laws
 pub mod Once
 
 -- no slot before the cursor can be woken
 abbrev pub NoneBefore : Jobs → List Bool → ℕ → Type 0
-NoneBefore J S t = (i : ℕ) → i < t → wakes J S i ≡ false
+NoneBefore J S t = (i : ℕ) → i < t → wakeable J S i ≡ false
 
 -- a slot that does not help does not help after another was woken
 abbrev pub StaysIdle : Jobs → Type 0
@@ -30,7 +30,7 @@ cursorAfter S (suc y) = elim (awake S y || touches S y) [ true ↦ suc (suc y) |
 
 -- the least slot that can be woken, from slot t on
 unfoldable pub nextFrom : Jobs → List Bool → ℕ → Option ℕ
-nextFrom J S t = leastFrom (J .horizon - t) t (wakes J S)
+nextFrom J S t = leastFrom (J .horizon - t) t (wakeable J S)
 
 -- the slots woken in at most n turns, the cursor at t
 unfoldable pub wokenFrom : ℕ → Jobs → List Bool → ℕ → List ℕ

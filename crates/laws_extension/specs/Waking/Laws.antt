@@ -19,7 +19,7 @@ use Rattle.sched.specs.Energy.Laws.{awake-at-most}
 use Rattle.sched.specs.Energy.{awakeSlots, runsFrom, energy}
 use Rattle.sched.specs.Skeleton.{isSkeleton, inWindow}
 use Rattle.sched.specs.Workable.{workable}
-use Rattle.sched.specs.Steps.{helps, wakes, nextWake, wokenIn, woken, wakeAll}
+use Rattle.sched.specs.Extension.{helps, wakeable, nextWake, wokenIn, woken, wakeAll}
 use Rattle.laws_extension.specs.Waking.{Turn, Turns, AlwaysOne}
 
 -- one awake slot more
@@ -76,7 +76,7 @@ wake-runs b S x a t = wake-runs-after b S x a (touches-after b S x t)
 
 pub wake-energy : (J : Jobs) (S : List Bool) (x : ℕ) → x < length S → awake S x ≡ false → touches S x ≡ true → energy J (wakeSlot S x) ≤ suc (energy J S)
 wake-energy J S x l a t =
-    let m = mul-le-mul (le-refl (J .wake)) (wake-runs false S x a t) in
+    let m = mul-le-mul (le-refl (J .wake)) (wake-runs (J .start) S x a t) in
     let w = wake-awake S x l a in
     omega arith
 
@@ -105,11 +105,6 @@ unfolding wakeAll
 all-length S [] = refl
 all-length S (t ∷ ts) = all-length (wakeSlot S t) ts ∙ length-set S t true
 
-pub all-skeleton : (J : Jobs) (S : List Bool) (ts : List ℕ) → isSkeleton J S ≡ true → isSkeleton J (wakeAll S ts) ≡ true
-unfolding wakeAll
-all-skeleton J S [] k = k
-all-skeleton J S (t ∷ ts) k = all-skeleton J (wakeSlot S t) ts (wake-skeleton J S t k)
-
 module _ (J : Jobs) where
   pub turns-energy : (S : List Bool) (ts : List ℕ) → length S ≡ J .horizon → Turns J S ts → energy J (wakeAll S ts) ≤ energy J S + length ts
   unfolding wakeAll
@@ -117,14 +112,6 @@ module _ (J : Jobs) where
   turns-energy S (t ∷ ts) e (w, ws) =
       let rest = turns-energy (wakeSlot S t) ts (length-set S t true ∙ e) ws in
       let one = wake-energy J S t (omega (arith, w .below)) (w .sleeps) (w .near) in
-      omega arith
-
-  pub turns-awake : (S : List Bool) (ts : List ℕ) → length S ≡ J .horizon → Turns J S ts → awakeSlots (wakeAll S ts) ≡ awakeSlots S + length ts
-  unfolding wakeAll
-  turns-awake S [] e w = omega arith
-  turns-awake S (t ∷ ts) e (w, ws) =
-      let rest = turns-awake (wakeSlot S t) ts (length-set S t true ∙ e) ws in
-      let one = wake-awake S t (omega (arith, w .below)) (w .sleeps) in
       omega arith
 
   pub turns-workable : (S : List Bool) (ts : List ℕ) → Turns J S ts → workable J (wakeAll S ts) ≡ workable J S + length ts
@@ -137,21 +124,21 @@ module _ (J : Jobs) where
 
   -- step 3
 
-  pub wakes-parts : (S : List Bool) (t : ℕ) → wakes J S t ≡ true → (awake S t ≡ false) × (touches S t ≡ true) × (helps J S t ≡ true)
-  unfolding wakes
+  pub wakes-parts : (S : List Bool) (t : ℕ) → wakeable J S t ≡ true → (awake S t ≡ false) × (touches S t ≡ true) × (helps J S t ≡ true)
+  unfolding wakeable
   wakes-parts S t w =
       let a = and-true (not (awake S t) && touches S t) (helps J S t) w in
       let b = and-true (not (awake S t)) (touches S t) (a .0) in
       (not-true (awake S t) (b .0), b .1, a .1)
 
-  pub wakes-turn : (S : List Bool) (t : ℕ) → t < J .horizon → wakes J S t ≡ true → Turn J S t
+  pub wakes-turn : (S : List Bool) (t : ℕ) → t < J .horizon → wakeable J S t ≡ true → Turn J S t
   unfolding helps
   wakes-turn S t l w = let a = wakes-parts S t w in record { below = l; sleeps = a .0; near = a .1; gains = eqb-true _ _ (a .2) }
 
   -- the slot that step 3 wakes next
   pub next-turn : (S : List Bool) (t : ℕ) → nextWake J S ≡ some t → Turn J S t
   unfolding nextWake
-  next-turn S t e = let f = least-some (J .horizon) 0 (wakes J S) t e in wakes-turn S t (omega (arith, f .below)) (f .holds)
+  next-turn S t e = let f = least-some (J .horizon) 0 (wakeable J S) t e in wakes-turn S t (omega (arith, f .below)) (f .holds)
 
   pub woken-turns : (n : ℕ) (S : List Bool) → Turns J S (wokenIn n J S)
   unfolding wokenIn
@@ -184,7 +171,7 @@ module _ (J : Jobs) (one : AlwaysOne J) where
   unfolding nextWake
   next-found S e k v n =
       let x = one S e k v in
-      true-not-false (wakes J S (x .0)) (x .2) (least-none (J .horizon) 0 (wakes J S) n (x .0) (omega arith) (omega (arith, x .1)))
+      true-not-false (wakeable J S (x .0)) (x .2) (least-none (J .horizon) 0 (wakeable J S) n (x .0) (omega arith) (omega (arith, x .1)))
 
   -- turns enough for all slots that sleep
   pub woken-in-full : (n : ℕ) (S : List Bool) → length S ≡ J .horizon → isSkeleton J S ≡ true → workable J S ≤ totalVolume J → J .horizon ≤ awakeSlots S + n → workable J (wakeAll S (wokenIn n J S)) ≡ totalVolume J

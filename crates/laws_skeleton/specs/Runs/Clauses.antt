@@ -1,14 +1,15 @@
 -- One turn of each definition of `Runs`, as a loop over the jobs takes it.
-use Prim.Native.Nat.{ℕ, suc, _+_, _-_, _≤_, _<_}
-use mathlib.Core.Path.{_≡_, refl, ap, _∙_}
-use mathlib.Core.Bool.{Bool, true, false}
+use Prim.Native.Nat.{ℕ, zero, suc, _+_, _-_, _≤_, _<_}
+use mathlib.Core.Path.{_≡_, refl}
+use mathlib.Core.Bool.{true, false}
 use mathlib.Core.List.{List, [], _∷_, _++_}
 use native.Mathlib.Omega.{arith}
-use lib.ListN.{length, replicate}
+use lib.ListN.{replicate}
 use borrow.Author.Tests.{le-leb, lt-leb}
 use Rattle.sched.specs.Jobs.{Jobs}
 use Rattle.laws_skeleton.specs.Windows.{windowStart, windowEnd}
-use Rattle.laws_skeleton.specs.Runs.{sleepCost, takes, runEnd, endAfter, valueAt, values, Run, runAt, runsOf, spread}
+use Rattle.laws_skeleton.specs.Runs.{sleepCost, takes, runEnd, endAfter, valueAt, values, runAt, runsOf, firstEnd, runUpTo, runsFromStart, spread}
+use Rattle.sched.specs.Runs.{Run}
 
 module _ (J : Jobs) where
   -- the job to wake for
@@ -51,10 +52,6 @@ module _ (J : Jobs) where
   unfolding values
   values-first j js = refl
 
-  pub values-length : (js : List ℕ) → length (values J js) ≡ length js
-  values-length [] = ap length values-none
-  values-length (j ∷ js) = ap length (values-first j js) ∙ ap suc (values-length js)
-
   -- the runs
 
   pub runs-none : (s : ℕ) (vs : List ℕ) → runsOf J s [] vs ≡ []
@@ -70,6 +67,12 @@ module _ (J : Jobs) where
   unfolding runsOf
   runs-skip s j v js vs l = rw (lt-leb _ _ l, runsOf)
 
+  -- asleep before slot 0 there is no run from before
+
+  pub runs-asleep : (js vs : List ℕ) → runsFromStart J false js vs ≡ runsOf J 0 js vs
+  unfolding firstEnd runUpTo
+  runs-asleep js vs = refl
+
 -- the slots of the runs
 
 pub spread-none : (h t : ℕ) → spread h t [] ≡ replicate (h - t) false
@@ -84,3 +87,9 @@ spread-run h t e u rs l =
     let n : u - e ≡ suc (u - suc e) = omega arith in
     let m : e + suc (u - suc e) ≡ u = omega arith in
     rw (n, m)
+
+-- a run from slot 0 up to e without it
+pub spread-first : (h e : ℕ) (rs : List Run) → spread h 0 (runUpTo e rs) ≡ replicate e true ++ spread h e rs
+unfolding runUpTo spread
+spread-first h zero rs = refl
+spread-first h (suc e) rs = let m : 0 + suc e ≡ suc e = omega arith in rw m

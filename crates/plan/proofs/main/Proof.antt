@@ -2,7 +2,7 @@
 use mathlib.Core.Path.{sym}
 use borrow.Author.Needs.{needs}
 use lib.Seq.{length-take-le}
-use Rattle.joblist.specs.Laws.Handed.{read-list}
+use Rattle.joblist.specs.Theorems.Handed.{read-list}
 use Rattle.plan.proofs.Laws.{fits-buffer}
 use Rattle.plan.proofs.main.Statement.{statement}
 use Rattle.plan.proofs.main.Tie as tie

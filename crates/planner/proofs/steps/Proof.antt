@@ -1,59 +1,58 @@
--- `planner::steps` meets its contract: each step hands the next what it asks for.
-use Prim.Native.Nat.{ℕ, _≤_}
-use mathlib.Core.Path.{refl, sym, subst}
-use mathlib.Core.List.{List}
-use lib.ListN.{length}
+-- `steps` meets its contract: each step hands the next what it asks for.
+use mathlib.Core.Path.{_≡_, refl}
 use denote.Ref.{now}
-use Rattle.sched.specs.Jobs.{jobsOf}
-use Rattle.orders.specs.Order.Both.{ranks-long, in-arrival}
-use Rattle.planner.proofs.Stepping.{served, extendable, fillable, countable, stepped}
+use Rattle.sched.specs.Jobs.{Jobs, jobsOf}
+use Rattle.sched.specs.Slots.{awakeOf}
+use Rattle.sched.specs.Skeleton.{leastSkeleton}
+use Rattle.step3_extend.specs.Turns.{Extended}
+use Rattle.planner.proofs.Stepping.{markable, extendable, finishable, stepped}
 use borrow.Author.Needs.{needs}
 use Rattle.planner.proofs.steps.Statement.{statement}
 use Rattle.planner.proofs.steps.Tie as tie
 
+-- the list, and what steps 2 and 3 have done for it
+abbrev listed : tie.Start → Jobs
+listed s = jobsOf (s .args .h) (s .args .q) (now (s .args .releases)) (now (s .args .deadlines)) (now (s .args .volumes))
+
+abbrev lent : tie.After-mark-arg → tie.Start
+lent c = c .before .before .before .before .before .before .before
+
+abbrev marked : tie.After-extend-arg → tie.After-mark
+marked c = c .before .before .before
+
+is-marked : (c : tie.After-mark) → awakeOf (c .mark .last .1 .1 .1 .1 .1 .0) ≡ leastSkeleton (listed (lent (c .before)))
+is-marked c = let s = lent (c .before) in c .mark .ensures (listed s) (markable (listed s) _ _ _ (s .pre) refl)
+
+is-extended : (c : tie.After-extend) → Extended (listed (lent (marked (c .before) .before))) (c .extend .last .1 .1 .1 .1 .1 .0) (c .extend .result)
+is-extended c =
+    let m = marked (c .before) in
+    let s = lent (m .before) in
+    c .extend .ensures (listed s) (extendable (listed s) _ _ _ (s .pre) _ (is-marked m))
+
 mark-requires : tie.Need-mark-requires
-mark-requires c κs = served _ _ _ _ (c .before .before .before .before .before .before .before .pre)
+mark-requires c κs = let s = lent c in (listed s, markable (listed s) _ _ _ (s .pre) refl)
 
 extend-requires : tie.Need-extend-requires
 extend-requires c κs =
-    let s = c .before .before .before .before .before .before .before .before .before .before .before in
-    let J = jobsOf (s .args .h) (s .args .q) (now (s .args .releases)) (now (s .args .deadlines)) (now (s .args .volumes)) in (
-      ranks-long J _ _ (s .pre .passes) (s .pre .orders),
-      extendable J _ _ _ (s .pre) _ (c .before .before .before .mark .ensures),
-      in-arrival J _ _ (s .pre .passes) (s .pre .orders),
-    )
+    let m = marked c in
+    let s = lent (m .before) in
+    ((listed s, extendable (listed s) _ _ _ (s .pre) _ (is-marked m)), s .pre .orders)
 
-fill-requires : tie.Need-fill-requires
-fill-requires c κs =
-    let s = c .before .before .before .before .before .before .before .before .before .before .before .before .before .before .before in
-    let J = jobsOf (s .args .h) (s .args .q) (now (s .args .releases)) (now (s .args .deadlines)) (now (s .args .volumes)) in (
-      fillable J _ _ _ (s .pre) _ _ (c .before .before .before .extend .ensures),
-      in-arrival J _ _ (s .pre .passes) (s .pre .orders),
-    )
-
-cost-of-requires : tie.Need-cost-of-requires
-cost-of-requires c κs =
-    let s = c .before .before .before .before .before .before .before .before .before .before .before .before .before .before .before .before .before .before .before in
-    let J = jobsOf (s .args .h) (s .args .q) (now (s .args .releases)) (now (s .args .deadlines)) (now (s .args .volumes)) in
-    subst (λ (t : List ℕ). length t ≤ 4096) (sym (c .before .before .before .fill .ensures))
-    (countable J _ _ _ (s .pre) _ _ (c .before .before .before .before .before .before .before .extend .ensures))
+finish-requires : tie.Need-finish-requires
+finish-requires c κs =
+    let woke = c .before .before .before in
+    let s = lent (marked (woke .before) .before) in
+    finishable (listed s) _ _ _ (s .pre) (is-extended woke)
 
 same-length : tie.Need-same-length
 same-length c = search needs
 
 returns : tie.Need-returns
 returns c =
-    let s = c .before .before .before .before .before .before .before .before .before .before .before .before .before .before .before .before .before .before .before .before in
-    let J = jobsOf (s .args .h) (s .args .q) (now (s .args .releases)) (now (s .args .deadlines)) (now (s .args .volumes)) in
-    stepped J _ _ _ _ (c .before .before .before .before .before .before .before .before .extend .ensures) (c .before .before .before .before .fill .ensures) (c .cost-of .ensures J refl)
+    let done = c .before .before in
+    let woke = done .before .before .before .before in
+    let s = lent (marked (woke .before) .before) in
+    stepped (listed s) _ _ _ (s .pre) (is-extended woke) (done .finish .ensures) refl
 
 pub steps-spec : {M : Type 1} → statement M
-steps-spec =
-    tie.close
-    (tie.spec
-    mark-requires
-    extend-requires
-    fill-requires
-    cost-of-requires
-    same-length
-    returns)
+steps-spec = tie.close (tie.spec mark-requires extend-requires finish-requires same-length returns)

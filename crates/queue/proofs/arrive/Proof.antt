@@ -1,4 +1,4 @@
--- `serving::arrive` meets its contract: the next rank of `soon` joins while it is released.
+-- `arrive` meets its contract: the next rank of `arrivals` joins while it is released.
 use borrow.Author.Needs.{needs}
 use Prim.Native.Nat.{_-_, _<_}
 use native.Mathlib.Omega.{arith}
@@ -6,27 +6,34 @@ use lib.ListN.{length, getD}
 use denote.Ref.{now}
 use Rattle.queue.specs.Arrivals.{Come}
 use Rattle.queue.specs.Runs.{Reached}
-use Rattle.queue.proofs.Events.{reached, come-due, come-turn, come-small}
+use Rattle.queue.proofs.Events.{reached, come-known, come-turn, come-small}
 use Rattle.queue.proofs.arrive.Statement.{statement}
 use Rattle.queue.proofs.arrive.Tie as tie
 
 abbrev Inv-loop : tie.InvT-loop
-Inv-loop t mask next gone releases order soon left ranks₀ i₀ ranks i = Come releases order soon left t ranks i gone
+Inv-loop t mask next gone releases ranks arrivals left bits₀ i₀ bits i = Come releases ranks arrivals left t bits i gone
 
 abbrev μ-loop : tie.MeasureT-loop
-μ-loop t mask next gone releases order soon left ranks₀ i₀ ranks i = length releases - i
+μ-loop t mask next gone releases ranks arrivals left bits₀ i₀ bits i = length releases - i
 
-within : (c : tie.Then1 Inv-loop μ-loop) → c .before .before .loop .i < length (now (c .before .before .before .before .before .before .before .args .releases))
-within c = come-due (c .before .before .before .before .before .before .before .pre) _ _ (c .before .release-at .ensures) (omega (arith, c .if1 .taken))
+-- where the function starts, from the head of the loop
+abbrev start : tie.At-loop Inv-loop μ-loop → tie.Start Inv-loop μ-loop
+start c = c .before .before .before .before .before
 
-can-reach : (c : tie.Then1 Inv-loop μ-loop) → Reached (now (c .before .before .before .before .before .before .before .args .releases)) (now (c .before .before .before .before .before .before .before .args .order)) (now (c .before .before .before .before .before .before .before .args .soon)) (c .before .before .loop .i)
-can-reach c = reached (c .before .before .before .before .before .before .before .pre) _ (within c)
+within : (c : tie.Then1 Inv-loop μ-loop) → c .before .before .loop .i < length (now (start (c .before .before) .args .releases))
+within c = come-known (start (c .before .before) .pre) _ _ (c .before .release-at .ensures) (omega (arith, c .if1 .taken))
+
+can-reach :
+    (c : tie.Then1 Inv-loop μ-loop) →
+    let a = start (c .before .before) .args in
+    Reached (now (a .releases)) (now (a .ranks)) (now (a .arrivals)) (c .before .before .loop .i)
+can-reach c = reached (start (c .before .before) .pre) _ (within c)
 
 loop-holds : tie.Need-loop-holds Inv-loop μ-loop
 loop-holds c = c .before .before .before .before .pre .came
 
 release-at-requires : tie.Need-release-at-requires Inv-loop μ-loop
-release-at-requires c κs = λ l. reached (c .before .before .before .before .before .pre) _ l
+release-at-requires c κs = λ l. reached (start c .pre) _ l
 
 shared-slice-read-rank : tie.Need-shared-slice-read-rank Inv-loop μ-loop
 shared-slice-read-rank c = can-reach (c .before) .listed
@@ -38,19 +45,32 @@ shared-slice-read-job : tie.Need-shared-slice-read-job Inv-loop μ-loop
 shared-slice-read-job c = can-reach (c .before .before) .rank
 
 cast-job : tie.Need-cast-job Inv-loop μ-loop
-cast-job c = omega (arith, c .shared-slice-known6 .given (getD (now (c .before .before .before .before .before .before .before .before .before .args .soon)) (c .before .before .before .before .loop .i) 0))
+cast-job c =
+    let head = c .before .before .before .before in
+    omega (arith, c .shared-slice-known6 .given (getD (now (start head .args .arrivals)) (head .loop .i) 0))
 
 mul-joining : tie.Need-mul-joining Inv-loop μ-loop
-mul-joining c = omega (arith, c .shared-slice-known6 .given (getD (now (c .before .before .before .before .before .before .before .before .before .args .soon)) (c .before .before .before .before .loop .i) 0))
+mul-joining c =
+    let head = c .before .before .before .before in
+    omega (arith, c .shared-slice-known6 .given (getD (now (start head .args .arrivals)) (head .loop .i) 0))
 
 shared-slice-read-joining : tie.Need-shared-slice-read-joining Inv-loop μ-loop
-shared-slice-read-joining c = omega (arith, can-reach (c .before .before .before) .job, c .before .before .before .before .before .before .before .before .before .before .pre .room)
+shared-slice-read-joining c =
+    let come = c .before .before .before in
+    omega (arith, can-reach come .job, start (come .before .before) .pre .queued .room)
 
 joining-requires : tie.Need-joining-requires Inv-loop μ-loop
-joining-requires c κs = omega (arith, c .before .before .before .before .before .before .before .before .before .before .pre .arriving .known _ (within (c .before .before .before)), c .before .before .before .before .before .before .before .before .before .before .pre .few)
+joining-requires c κs =
+    let come = c .before .before .before in
+    let q = start (come .before .before) .pre .queued in
+    omega (arith, q .orders .by-release .known _ (within come), q .few)
 
-add-ranks : tie.Need-add-ranks Inv-loop μ-loop
-add-ranks c = record { fits = come-small (c .before .before .before .before .before .before .before .before .before .before .before .pre) _ _ (come-turn (c .before .before .before .before .before .before .before .before .before .before .before .pre) _ _ _ _ (c .before .before .before .before .before .release-at .ensures) (omega (arith, c .before .before .before .before .if1 .taken)) (c .before .before .before .before .before .before .loop .inv) (c .joining .ensures)) }
+add-bits : tie.Need-add-bits Inv-loop μ-loop
+add-bits c =
+    let come = c .before .before .before .before in
+    let head = come .before .before in
+    let next = come-turn (start head .pre) _ _ _ _ (come .before .release-at .ensures) (omega (arith, come .if1 .taken)) (head .loop .inv) (c .joining .ensures) in
+    record { fits = come-small (start head .pre) _ _ next }
 
 add-i : tie.Need-add-i Inv-loop μ-loop
 add-i c = let l = within (c .before .before .before .before) in search needs
@@ -59,7 +79,10 @@ loop-less : tie.Need-loop-less Inv-loop μ-loop
 loop-less c = let l = within (c .before .before .before .before) in omega arith
 
 loop-again : tie.Need-loop-again Inv-loop μ-loop
-loop-again c = come-turn (c .before .before .before .before .before .before .before .before .before .before .before .pre) _ _ _ _ (c .before .before .before .before .before .release-at .ensures) (omega (arith, c .before .before .before .before .if1 .taken)) (c .before .before .before .before .before .before .loop .inv) (c .joining .ensures)
+loop-again c =
+    let come = c .before .before .before .before in
+    let head = come .before .before in
+    come-turn (start head .pre) _ _ _ _ (come .before .release-at .ensures) (omega (arith, come .if1 .taken)) (head .loop .inv) (c .joining .ensures)
 
 returns : tie.Need-returns Inv-loop μ-loop
 returns c = record { came = c .before .before .loop .inv; later = omega (arith, c .before .release-at .ensures, c .if1 .left) }
@@ -79,7 +102,7 @@ arrive-spec =
     mul-joining
     shared-slice-read-joining
     joining-requires
-    add-ranks
+    add-bits
     add-i
     loop-less
     loop-again

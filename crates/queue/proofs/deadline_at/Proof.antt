@@ -1,7 +1,7 @@
--- `serving::deadline_at` meets its contract, by its test.
+-- `deadline_at` meets its contract, by its test.
 use mathlib.Core.Path.{sym, _∙_}
 use native.Mathlib.Omega.{arith}
-use Rattle.queue.proofs.Events.{never-in, never-out}
+use Rattle.queue.proofs.Events.{beyond-in, beyond-out}
 use borrow.Author.Needs.{needs}
 use Rattle.queue.proofs.deadline_at.Statement.{statement}
 use Rattle.queue.proofs.deadline_at.Tie as tie
@@ -22,10 +22,10 @@ wide-requires : tie.Need-wide-requires
 wide-requires c κs = search needs
 
 returns : tie.Need-returns
-returns c = c .wide .ensures ∙ sym (never-in _ _ _ (c .before .before .before .if1 .taken))
+returns c = c .wide .ensures ∙ sym (beyond-in _ _ _ (c .before .before .before .if1 .taken))
 
 returns-2 : tie.Need-returns-2
-returns-2 c = sym (never-out _ _ _ (c .if1 .left))
+returns-2 c = sym (beyond-out _ _ _ (c .if1 .left))
 
 pub deadline-at-spec : {M : Type 1} → statement M
 deadline-at-spec =

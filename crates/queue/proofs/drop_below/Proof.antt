@@ -1,4 +1,4 @@
--- `serving::drop_below` meets its contract: shifted down and up again.
+-- `drop_below` meets its contract: shifted down and up again.
 use native.Mathlib.Omega.{arith}
 use Rattle.queue.proofs.LowestBit.{dropped, dropped-all}
 use borrow.Author.Needs.{needs}

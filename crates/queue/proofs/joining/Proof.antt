@@ -1,4 +1,4 @@
--- `serving::joining` meets its contract, by its tests.
+-- `joining` meets its contract, by its tests.
 use Rattle.queue.proofs.LowestBit.{joins-gone, joins-empty, joins}
 use borrow.Author.Needs.{needs}
 use Rattle.queue.proofs.joining.Statement.{statement}

@@ -1,20 +1,26 @@
--- `serving::slot` meets its contract: a sleeping slot changes nothing, an awake one serves the lowest of its ranks.
+-- `slot` meets its contract: a sleeping slot changes nothing, an awake one serves the lowest of its ranks.
 use Rattle.queue.proofs.SlotBySlot.{slot-sleeps, slot-can, slot-serves}
 use borrow.Author.Needs.{needs}
 use Rattle.queue.proofs.slot.Statement.{statement}
 use Rattle.queue.proofs.slot.Tie as tie
 
+-- where the function starts, from its test
+abbrev start : tie.After-slice-known3 → tie.Start
+start c = c .before .before .before .before .before .before .before
+
 slice-read-if1 : tie.Need-slice-read-if1
 slice-read-if1 c = search needs
 
 returns : tie.Need-returns
-returns c = slot-sleeps _ _ _ _ _ _ _ _ _ _ _ (c .if1 .taken) (c .before .before .before .before .before .before .before .before .pre .lookable .standing)
+returns c = slot-sleeps _ _ _ _ _ _ _ _ _ _ _ (c .if1 .taken) (start (c .before) .pre .lookable .ready)
 
 current-requires : tie.Need-current-requires
-current-requires c κs = c .before .before .before .before .before .before .before .before .before .pre .lookable
+current-requires c κs = start (c .before .before) .pre .lookable
 
 serve-requires : tie.Need-serve-requires
-serve-requires c κs pos = slot-can _ _ _ _ _ _ _ _ _ _ _ _ _ _ (c .before .before .before .before .before .before .before .before .before .before .before .pre .lookable) (c .before .current .ensures) pos
+serve-requires c κs pos =
+    let looked = c .before in
+    slot-can (start (looked .before .before .before) .pre .lookable) (looked .current .ensures) pos
 
 slice-write-table : tie.Need-slice-write-table
 slice-write-table c = search needs
@@ -27,8 +33,11 @@ same-length-2 c = search needs
 
 returns-2 : tie.Need-returns-2
 returns-2 c =
-    slot-serves _ _ _ _ _ _ _ _ _ _ _ _ _ _ (c .before .before .before .before .before .before .before .before .before .before .before .before .before .before .pre .lookable)
-    (c .before .before .before .before .current .ensures) _ _ _ _ (c .before .before .before .before .before .before .if1 .left) (c .before .before .serve .ensures) (c .before .before .serve .kept .1 .0)
+    let done = c .before .before in
+    let looked = done .before .before in
+    let test = looked .before .before in
+    slot-serves (start (test .before) .pre .lookable) (looked .current .ensures) _ _ _ _ (test .if1 .left) (done .serve .ensures)
+    (done .serve .kept .1 .0)
 
 pub slot-spec : {M : Type 1} → statement M
 slot-spec =

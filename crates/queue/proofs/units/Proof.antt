@@ -1,4 +1,4 @@
--- `serving::units` meets its contract: the volumes are copied to an array of zeros.
+-- `units` meets its contract: the volumes are copied to an array of zeros.
 use Rattle.queue.proofs.Filling.{units-are}
 use borrow.Author.Needs.{needs}
 use Rattle.queue.proofs.units.Statement.{statement}

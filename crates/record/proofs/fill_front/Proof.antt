@@ -2,7 +2,8 @@
 use mathlib.Core.Path.{refl}
 use native.Mathlib.Omega.{arith}
 use Rattle.sched.specs.Slots.{awakeOf}
-use Rattle.record.specs.Record.{horizonBytes, mapOf}
+use Rattle.sched.specs.TwoBytes.{twoBytes}
+use Rattle.record.specs.Record.{mapOf}
 use Rattle.record.proofs.Parts.{next-piece}
 use borrow.Author.Needs.{needs}
 use Rattle.record.proofs.fill_front.Statement.{statement}
@@ -27,7 +28,7 @@ same-length : tie.Need-same-length
 same-length c = search needs
 
 returns : tie.Need-returns
-returns c = next-piece (horizonBytes (c .before .before .before .before .before .before .before .before .before .before .args .h)) (mapOf (awakeOf (c .before .before .before .before .before .before .before .before .before .before .args .slots .now))) (c .before .before .before .before .before .before .before .before .before .before .args .out .now) (c .before .before .before .before .before .before .put-horizon .last .1 .0) (c .before .before .fill-map .last .1 .0) 2 refl (omega (arith, c .before .before .before .before .before .before .before .before .before .before .pre .1)) (c .before .before .before .before .before .before .put-horizon .ensures) (c .before .before .fill-map .ensures)
+returns c = next-piece (twoBytes (c .before .before .before .before .before .before .before .before .before .before .args .h)) (mapOf (awakeOf (c .before .before .before .before .before .before .before .before .before .before .args .slots .now))) (c .before .before .before .before .before .before .before .before .before .before .args .out .now) (c .before .before .before .before .before .before .put-horizon .last .1 .0) (c .before .before .fill-map .last .1 .0) 2 refl (omega (arith, c .before .before .before .before .before .before .before .before .before .before .pre .1)) (c .before .before .before .before .before .before .put-horizon .ensures) (c .before .before .fill-map .ensures)
 
 pub fill-front-spec : {M : Type 1} → statement M
 fill-front-spec =

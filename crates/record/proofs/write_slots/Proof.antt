@@ -1,9 +1,11 @@
 -- `record::write_slots` meets its contract: the ones of the map give the length, which is tested before anything is written.
-use mathlib.Core.Path.{refl, _∙_}
+use Prim.Native.Nat.{_+_}
+use mathlib.Core.Path.{refl, sym, _∙_}
 use mathlib.Core.Bool.{not}
 use native.Mathlib.Omega.{arith}
 use lib.ListN.{length, length-map}
 use lib.Dec.{eqb}
+use Rattle.sched.specs.Checks.Laws.{length-good}
 use Rattle.sched.specs.Slots.{awakeOf}
 use Rattle.record.specs.Record.{mapLength}
 use Rattle.record.specs.Record.Laws.{record-size, ones-of-slots, map-ones-few}
@@ -22,19 +24,55 @@ add-behind-2 : tie.Need-add-behind-2
 add-behind-2 c = search needs
 
 add-bytes : tie.Need-add-bytes
-add-bytes c = omega (arith, c .count-awake .ensures, map-ones-few (mapLength (length (awakeOf (c .before .before .before .args .slots .now)))) 0 (awakeOf (c .before .before .before .args .slots .now)), length-map (c .before .before .before .args .slots .now) (λ byte. not (eqb byte 255)))
+add-bytes c =
+    let slots = c .before .before .before .args .slots .now in
+    omega (
+      arith,
+      c .count-awake .ensures,
+      map-ones-few (mapLength (length (awakeOf slots))) 0 (awakeOf slots),
+      length-map slots (λ byte. not (eqb byte 255)),
+    )
 
-returns : tie.Need-returns
-returns c = no-room _ _ _ _ (record-size (c .before .before .before .before .args .h) (c .before .before .before .before .args .slots .now) _ (c .before .count-awake .ensures)) (c .if1 .taken)
+check-length-requires : tie.Need-check-length-requires
+check-length-requires c κs = search needs
+
+enum-told : tie.Need-enum-told
+enum-told c = search needs
 
 fill-record-requires : tie.Need-fill-record-requires
-fill-record-requires c κs = record { few = c .before .before .before .before .before .pre; start = refl; room = omega (arith, record-size (c .before .before .before .before .before .args .h) (c .before .before .before .before .before .args .slots .now) _ (c .before .before .count-awake .ensures), c .before .if1 .left) }
+fill-record-requires c κs =
+    let tested = c .before .before .before in
+    let args = tested .before .before .before .before .args in
+    let awake = tested .before .count-awake .result in
+    let bytes = 2 + mapLength (length (args .slots .now)) + awake in
+    let fits = length-good (length (args .out .now)) bytes (sym (tested .check-length .ensures) ∙ c .before .enum-told .given .1) in
+    record {
+      few = tested .before .before .before .before .pre;
+      start = refl;
+      room = omega (arith, record-size (args .h) (args .slots .now) _ (tested .before .count-awake .ensures), fits);
+    }
+
+enum-known-r : tie.Need-enum-known-r
+enum-known-r c = search needs
 
 same-length : tie.Need-same-length
 same-length c = search needs
 
+returns : tie.Need-returns
+returns c =
+    let passed = c .before .before .before .before in
+    let counted = passed .before .before .before in
+    let args = counted .before .before .before .args in
+    room _ _ _ _ (record-size (args .h) (args .slots .now) _ (counted .count-awake .ensures)) _ _
+    (sym (passed .before .before .check-length .ensures) ∙ passed .enum-told .given .1)
+    (counted .count-awake .ensures ∙ ones-of-slots (args .slots .now)) (c .before .before .fill-record .ensures)
+
 returns-2 : tie.Need-returns-2
-returns-2 c = room _ _ _ _ (record-size (c .before .before .before .before .before .before .before .before .args .h) (c .before .before .before .before .before .before .before .before .args .slots .now) _ (c .before .before .before .before .before .count-awake .ensures)) _ _ (c .before .before .before .before .if1 .left) (c .before .before .before .before .before .count-awake .ensures ∙ ones-of-slots (c .before .before .before .before .before .before .before .before .args .slots .now)) (c .before .before .fill-record .ensures)
+returns-2 c =
+    let counted = c .before .before .before .before in
+    let args = counted .before .before .before .args in
+    no-room _ _ _ _ (record-size (args .h) (args .slots .now) _ (counted .count-awake .ensures)) _
+    (sym (c .before .before .before .check-length .ensures) ∙ c .before .r .given .1)
 
 pub write-slots-spec : {M : Type 1} → statement M
 write-slots-spec =
@@ -44,7 +82,10 @@ write-slots-spec =
     add-behind
     add-behind-2
     add-bytes
-    returns
+    check-length-requires
+    enum-told
     fill-record-requires
+    enum-known-r
     same-length
+    returns
     returns-2)

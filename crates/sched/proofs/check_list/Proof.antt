@@ -1,53 +1,35 @@
--- `sched::check_list` meets its contract: the tests are those of `listCheck`, in its order, and `check_jobs` answers for the jobs.
+-- `check_list` meets its contract: 12 for H decides, and where it passes the other list checks do.
+use mathlib.Core.Path.{sym, _∙_}
+use Rattle.sched.specs.Checks.Laws.{then-fails, then-passes}
 use borrow.Author.Needs.{needs}
-use borrow.Author.Tests.{lt-ltb, le-ltb, eq-eqb, ne-eqb}
 use Rattle.sched.proofs.check_list.Statement.{statement}
 use Rattle.sched.proofs.check_list.Tie as tie
 
+check-horizon-requires : tie.Need-check-horizon-requires
+check-horizon-requires c κs = search needs
+
+enum-told : tie.Need-enum-told
+enum-told c = search needs
+
+check-lists-requires : tie.Need-check-lists-requires
+check-lists-requires c κs = search needs
+
+enum-known-r : tie.Need-enum-known-r
+enum-known-r c = search needs
+
 returns : tie.Need-returns
-returns c = simp (eq-eqb _ _ (c .if1 .taken))
+returns c = c .check-lists .ensures ∙ sym (then-passes _ _ (sym (c .before .before .before .check-horizon .ensures) ∙ c .before .enum-told .given .1))
 
 returns-2 : tie.Need-returns-2
-returns-2 c = simp (ne-eqb _ _ (c .before .if1 .left), lt-ltb _ _ (c .if2 .taken))
-
-returns-3 : tie.Need-returns-3
-returns-3 c = simp (ne-eqb _ _ (c .before .before .if1 .left), le-ltb _ _ (c .before .if2 .left), ne-eqb _ _ (c .if3 .taken))
-
-returns-4 : tie.Need-returns-4
-returns-4 c =
-    simp (
-      ne-eqb _ _ (c .before .before .before .if1 .left),
-      le-ltb _ _ (c .before .before .if2 .left),
-      eq-eqb _ _ (c .before .if3 .left),
-      ne-eqb _ _ (c .if4 .taken),
-    )
-
-returns-5 : tie.Need-returns-5
-returns-5 c =
-    simp (
-      ne-eqb _ _ (c .before .before .before .before .if1 .left),
-      le-ltb _ _ (c .before .before .before .if2 .left),
-      eq-eqb _ _ (c .before .before .if3 .left),
-      eq-eqb _ _ (c .before .if4 .left),
-      lt-ltb _ _ (c .if5 .taken),
-    )
-
-check-jobs-requires : tie.Need-check-jobs-requires
-check-jobs-requires c κs = search needs
-
-returns-6 : tie.Need-returns-6
-returns-6 c =
-    let b = c .before in
-    simp (
-      ne-eqb _ _ (b .before .before .before .before .if1 .left),
-      le-ltb _ _ (b .before .before .before .if2 .left),
-      eq-eqb _ _ (b .before .before .if3 .left),
-      eq-eqb _ _ (b .before .if4 .left),
-      le-ltb _ _ (b .if5 .left),
-    )
-    (c .check-jobs .ensures)
+returns-2 c = sym (then-fails _ _ _ (sym (c .before .before .before .check-horizon .ensures) ∙ c .before .r .given .1))
 
 pub check-list-spec : {M : Type 1} → statement M
 check-list-spec =
     tie.close
-    (tie.spec returns returns-2 returns-3 returns-4 returns-5 check-jobs-requires returns-6)
+    (tie.spec
+    check-horizon-requires
+    enum-told
+    check-lists-requires
+    enum-known-r
+    returns
+    returns-2)

@@ -62,7 +62,7 @@ add-t14 : tie.Need-add-t14 Inv-loop μ-loop
 add-t14 c = omega (arith, cost-fits (c .before .before .args .q) (c .before .loop .runs) (search needs) (tally-runs-few _ _ _ _ _ (c .before .loop .inv) (c .before .before .pre)), tally-awake-few _ _ _ _ _ (c .before .loop .inv) (c .before .before .pre))
 
 returns : tie.Need-returns Inv-loop μ-loop
-returns c = λ J w. figures-are J (c .before .before .args .table .now) (c .before .before .args .q) (c .before .loop .awake) (c .before .loop .runs) (tally-end _ _ _ _ _ (c .before .loop .inv) (c .loop-test .left)) w
+returns c = λ J w s. figures-are J (c .before .before .args .table .now) (c .before .before .args .q) (c .before .loop .awake) (c .before .loop .runs) (tally-end _ _ _ _ _ (c .before .loop .inv) (c .loop-test .left)) w s
 
 pub cost-of-spec : {M : Type 1} → statement M
 cost-of-spec =

@@ -90,18 +90,18 @@ all-elim (suc n) f e i l = go (lt-suc l) (all-elim n f)
 -- searches
 
 -- x is the least of the k numbers from t on of which f holds
-pub record Least (t k : ℕ) (f : ℕ → Bool) (x : ℕ) : Type 0 where
+pub record LeastIn (t k : ℕ) (f : ℕ → Bool) (x : ℕ) : Type 0 where
   pub from : t ≤ x
   pub below : x < t + k
   pub holds : f x ≡ true
   pub first : (i : ℕ) → t ≤ i → i < x → f i ≡ false
 
-pub least-some : (k t : ℕ) (f : ℕ → Bool) (x : ℕ) → leastFrom k t f ≡ some x → Least t k f x
+pub least-some : (k t : ℕ) (f : ℕ → Bool) (x : ℕ) → leastFrom k t f ≡ some x → LeastIn t k f x
 unfolding leastFrom
 least-some zero t f x e = let z : _≡_ {A = ℕ} 0 1 = cc in absurd (omega arith)
 least-some (suc k) t f x e = go (f t) refl e (least-some k (suc t) f x)
   where
-    go : (b : Bool) → f t ≡ b → _≡_ {A = Option ℕ} (elim b [ true ↦ some t | false ↦ leastFrom k (suc t) f ]) (some x) → (leastFrom k (suc t) f ≡ some x → Least (suc t) k f x) → Least t (suc k) f x
+    go : (b : Bool) → f t ≡ b → _≡_ {A = Option ℕ} (elim b [ true ↦ some t | false ↦ leastFrom k (suc t) f ]) (some x) → (leastFrom k (suc t) f ≡ some x → LeastIn (suc t) k f x) → LeastIn t (suc k) f x
     go true q h ih = let s : t ≡ x = cc in record { from = omega arith; below = omega arith; holds = ap f (sym s) ∙ q; first = λ i l m. absurd (omega arith) }
     go false q h ih =
         let r = ih h in

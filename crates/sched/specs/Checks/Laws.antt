@@ -1,18 +1,18 @@
 -- A list passes the checks in their order exactly when it passes the list checks of 01.
 use Prim.Native.Nat.{ℕ, zero, suc, _+_, _≤_, _<_}
-use mathlib.Core.Path.{_≡_, refl}
+use mathlib.Core.Path.{_≡_, refl, ap}
 use mathlib.Core.Bool.{Bool, true, false, not}
 use mathlib.Core.List.{List}
 use mathlib.Core.Logic.{_↔_}
 use native.Mathlib.Decide.{ℕ-discrete}
 use native.Mathlib.Omega.{arith}
-use borrow.Author.Tests.{lt-leb, le-ltb, eq-eqb, ne-eqb, leb-false, ltb-false, eqb-true, eqb-false, not-false}
+use borrow.Author.Tests.{lt-leb, lt-ltb, le-ltb, eq-eqb, ne-eqb, leb-false, ltb-false, eqb-true, eqb-false, not-false}
 use lib.ListN.{length, getD}
 use lib.Dec.{leb, ltb, eqb}
 use Rattle.sched.specs.Jobs.{Jobs, count}
-use Rattle.sched.specs.Checks.{GoodJob, Passes, unless, andThen, jobCheck, checkFrom, jobsCheck, listCheck}
+use Rattle.sched.specs.Checks.{GoodJob, Passes, refuseIf, andThen, horizonCheck, lengthCheck, tableCheck, bytesFrom, slotsCheck, jobCheck, checkFrom, jobsCheck, countCheck, listsCheck, checkOf}
 use Rattle.sched.specs.declared.Refusal.{Refusal}
-use Rattle.sched.specs.declared.Refusal.the-variants.{OutOfRange, BadJob, Unequal}
+use Rattle.sched.specs.declared.Refusal.the-variants.{OutOfRange, BadJob, TooShort, Unequal}
 use Rattle.sched.specs.declared.Checked.{Checked}
 use Rattle.sched.specs.declared.Checked.the-variants.{Passed, Refused}
 
@@ -20,9 +20,9 @@ pub refused-not-passed : {A : Type 0} (r : Refusal) → _≡_ {A = Checked} (Ref
 refused-not-passed r e = let z : _≡_ {A = ℕ} 0 1 = cc in absurd (omega arith)
 
 -- a check that passes has not met its fault
-pub unless-passed : (b : Bool) (r : Refusal) (c : Checked) → unless b r c ≡ Passed → (b ≡ false) × (c ≡ Passed)
-unless-passed true r c e = refused-not-passed r e
-unless-passed false r c e = (refl, e)
+pub refuse-passed : (b : Bool) (r : Refusal) (c : Checked) → refuseIf b r c ≡ Passed → (b ≡ false) × (c ≡ Passed)
+refuse-passed true r c e = refused-not-passed r e
+refuse-passed false r c e = (refl, e)
 
 pub then-passed : (a c : Checked) → andThen a c ≡ Passed → (a ≡ Passed) × (c ≡ Passed)
 then-passed Passed c e = (refl, e)
@@ -30,9 +30,9 @@ then-passed (Refused r) c e = refused-not-passed r e
 
 pub job-good : (h j r d p : ℕ) → jobCheck h j r d p ≡ Passed → GoodJob h r d p
 job-good h j r d p e =
-    let a = unless-passed (leb d r) (BadJob j) (unless (ltb h d) (BadJob j) (unless (eqb p 0) (BadJob j) Passed)) e in
-    let b = unless-passed (ltb h d) (BadJob j) (unless (eqb p 0) (BadJob j) Passed) (a .1) in
-    let c = unless-passed (eqb p 0) (BadJob j) Passed (b .1) in
+    let a = refuse-passed (leb d r) (BadJob j) (refuseIf (ltb h d) (BadJob j) (refuseIf (eqb p 0) (BadJob j) Passed)) e in
+    let b = refuse-passed (ltb h d) (BadJob j) (refuseIf (eqb p 0) (BadJob j) Passed) (a .1) in
+    let c = refuse-passed (eqb p 0) (BadJob j) Passed (b .1) in
     record { span = leb-false d r (a .0); within = ltb-false h d (b .0); some = positive (eqb-false p 0 (c .0)) }
   where
     positive : (p ≡ 0 → ⊥) → 1 ≤ p
@@ -41,28 +41,69 @@ job-good h j r d p e =
 pub job-passes : (h j r d p : ℕ) → GoodJob h r d p → jobCheck h j r d p ≡ Passed
 job-passes h j r d p g = simp (lt-leb d r (g .span), le-ltb h d (g .within), ne-eqb p 0 (omega arith))
 
+-- checks in a row: the first decides where it fails, else the next
+pub then-fails : (a c : Checked) (r : Refusal) → a ≡ Refused r → andThen a c ≡ Refused r
+then-fails a c r e = ap (λ (x : Checked). andThen x c) e
+
+pub then-passes : (a c : Checked) → a ≡ Passed → andThen a c ≡ c
+then-passes a c e = ap (λ (x : Checked). andThen x c) e
+
+-- H, and lengths
+
+pub horizon-good : (h : ℕ) → horizonCheck h ≡ Passed → (1 ≤ h) × (h ≤ 4096)
+horizon-good h e =
+    let a = refuse-passed (eqb h 0) (OutOfRange 0) (refuseIf (ltb 4096 h) (OutOfRange 0) Passed) e in
+    let b = refuse-passed (ltb 4096 h) (OutOfRange 0) Passed (a .1) in
+    (positive (eqb-false h 0 (a .0)), ltb-false 4096 h (b .0))
+  where
+    positive : (h ≡ 0 → ⊥) → 1 ≤ h
+    positive n = omega arith
+
+pub length-good : (have need : ℕ) → lengthCheck have need ≡ Passed → need ≤ have
+length-good have need e = ltb-false have need (refuse-passed (ltb have need) (TooShort need) Passed e .0)
+
+pub length-passes : (have need : ℕ) → need ≤ have → lengthCheck have need ≡ Passed
+length-passes have need l = simp (le-ltb have need l)
+
+pub length-fails : (have need : ℕ) → have < need → lengthCheck have need ≡ Refused (TooShort need)
+length-fails have need l = simp (lt-ltb have need l)
+
+pub table-good : (h have : ℕ) → tableCheck h have ≡ Passed → (h ≤ 4096) × (h ≤ have)
+table-good h have e =
+    let (a, b) = then-passed (horizonCheck h) (lengthCheck have h) e in
+    (horizon-good h a .1, length-good have h b)
+
+pub slots-good : (h : ℕ) (table : List ℕ) → slotsCheck h table ≡ Passed → (h ≤ 4096) × (h ≤ length table)
+slots-good h table e = table-good h (length table) (then-passed (tableCheck h (length table)) (bytesFrom h 0 table) e .0)
+
+-- where the three lists have one length, the count decides, then the jobs
+pub lists-equal : (h : ℕ) (rs ds ps : List ℕ) → length ds ≡ length rs → length ps ≡ length rs →
+    listsCheck h rs ds ps ≡ andThen (countCheck (length rs)) (jobsCheck h rs ds ps)
+lists-equal h rs ds ps d p = simp (eq-eqb (length ds) (length rs) d, eq-eqb (length ps) (length rs) p)
+
 -- the k jobs from j on
-from-good : (k j h : ℕ) (rs ds ps : List ℕ) → checkFrom k j h rs ds ps ≡ Passed → (i : ℕ) → j ≤ i → i < j + k → GoodJob h (getD rs i 0) (getD ds i 0) (getD ps i 0)
+from-good : (k j h : ℕ) (rs ds ps : List ℕ) → checkFrom jobCheck k j h rs ds ps ≡ Passed →
+    (i : ℕ) → j ≤ i → i < j + k → GoodJob h (getD rs i 0) (getD ds i 0) (getD ps i 0)
 unfolding checkFrom
 from-good zero j h rs ds ps e i l m = absurd (omega arith)
 from-good (suc k) j h rs ds ps e i l m =
-    let s = then-passed (jobCheck h j (getD rs j 0) (getD ds j 0) (getD ps j 0)) (checkFrom k (suc j) h rs ds ps) e in
+    let s = then-passed (jobCheck h j (getD rs j 0) (getD ds j 0) (getD ps j 0)) (checkFrom jobCheck k (suc j) h rs ds ps) e in
     go (ℕ-discrete j i) (job-good h j (getD rs j 0) (getD ds j 0) (getD ps j 0) (s .0)) (from-good k (suc j) h rs ds ps (s .1) i)
   where
-    go : Dec (j ≡ i) → GoodJob h (getD rs j 0) (getD ds j 0) (getD ps j 0) → (suc j ≤ i → i < suc j + k → GoodJob h (getD rs i 0) (getD ds i 0) (getD ps i 0)) → GoodJob h (getD rs i 0) (getD ds i 0) (getD ps i 0)
+    Good : ℕ → Type 0
+    Good n = GoodJob h (getD rs n 0) (getD ds n 0) (getD ps n 0)
+
+    go : Dec (j ≡ i) → Good j → (suc j ≤ i → i < suc j + k → Good i) → Good i
     go (yes q) here rest = rw q at here
     go (no q) here rest = rest (omega arith) (omega arith)
 
-from-passes : (k j h : ℕ) (rs ds ps : List ℕ) → ((i : ℕ) → j ≤ i → i < j + k → GoodJob h (getD rs i 0) (getD ds i 0) (getD ps i 0)) → checkFrom k j h rs ds ps ≡ Passed
+from-passes : (k j h : ℕ) (rs ds ps : List ℕ) → ((i : ℕ) → j ≤ i → i < j + k → GoodJob h (getD rs i 0) (getD ds i 0) (getD ps i 0)) →
+    checkFrom jobCheck k j h rs ds ps ≡ Passed
 unfolding checkFrom
 from-passes zero j h rs ds ps g = refl
 from-passes (suc k) j h rs ds ps g =
     rw (job-passes h j (getD rs j 0) (getD ds j 0) (getD ps j 0) (g j (omega arith) (omega arith)))
     (from-passes k (suc j) h rs ds ps (λ i l m. g i (omega arith) (omega arith)))
-
--- the checks of planner, judge and list writer, on the lists of J
-abbrev pub checkOf : Jobs → Checked
-checkOf J = listCheck (J .horizon) (J .releases) (J .deadlines) (J .volumes)
 
 pub passed-passes : (J : Jobs) → checkOf J ≡ Passed → Passes J
 passed-passes J e =
@@ -70,27 +111,23 @@ passed-passes J e =
     let rs = J .releases in
     let ds = J .deadlines in
     let ps = J .volumes in
-    let x₅ : Checked = jobsCheck h rs ds ps in
-    let x₄ : Checked = unless (ltb 64 (length rs)) (OutOfRange 4) x₅ in
-    let x₃ : Checked = unless (not (eqb (length ps) (length rs))) (Unequal 0) x₄ in
-    let x₂ : Checked = unless (not (eqb (length ds) (length rs))) (Unequal 0) x₃ in
-    let x₁ : Checked = unless (ltb 4096 h) (OutOfRange 0) x₂ in
-    let a = unless-passed (eqb h 0) (OutOfRange 0) x₁ e in
-    let b = unless-passed (ltb 4096 h) (OutOfRange 0) x₂ (a .1) in
-    let c = unless-passed (not (eqb (length ds) (length rs))) (Unequal 0) x₃ (b .1) in
-    let d = unless-passed (not (eqb (length ps) (length rs))) (Unequal 0) x₄ (c .1) in
-    let f = unless-passed (ltb 64 (length rs)) (OutOfRange 4) x₅ (d .1) in
+    let x₄ : Checked = jobsCheck h rs ds ps in
+    let x₃ : Checked = andThen (countCheck (length rs)) x₄ in
+    let x₂ : Checked = refuseIf (not (eqb (length ps) (length rs))) (Unequal 0) x₃ in
+    let x₁ : Checked = refuseIf (not (eqb (length ds) (length rs))) (Unequal 0) x₂ in
+    let a = then-passed (horizonCheck h) x₁ e in
+    let b = refuse-passed (not (eqb (length ds) (length rs))) (Unequal 0) x₂ (a .1) in
+    let c = refuse-passed (not (eqb (length ps) (length rs))) (Unequal 0) x₃ (b .1) in
+    let d = then-passed (countCheck (length rs)) x₄ (c .1) in
+    let f = refuse-passed (ltb 64 (length rs)) (OutOfRange 4) Passed (d .0) in
     record {
-      low = positive (eqb-false h 0 (a .0));
-      high = ltb-false 4096 h (b .0);
-      same-deadlines = eqb-true (length ds) (length rs) (not-false _ (c .0));
-      same-volumes = eqb-true (length ps) (length rs) (not-false _ (d .0));
+      low = horizon-good h (a .0) .0;
+      high = horizon-good h (a .0) .1;
+      same-deadlines = eqb-true (length ds) (length rs) (not-false _ (b .0));
+      same-volumes = eqb-true (length ps) (length rs) (not-false _ (c .0));
       few = ltb-false 64 (length rs) (f .0);
-      good = λ j l. from-good (length rs) 0 h rs ds ps (f .1) j (omega arith) (omega arith);
+      good = λ j l. from-good (length rs) 0 h rs ds ps (d .1) j (omega arith) (omega arith);
     }
-  where
-    positive : (J .horizon ≡ 0 → ⊥) → 1 ≤ J .horizon
-    positive n = omega arith
 
 pub passes-passed : (J : Jobs) → Passes J → checkOf J ≡ Passed
 passes-passed J p =

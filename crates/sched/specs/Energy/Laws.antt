@@ -1,11 +1,14 @@
--- How large the figures of a table can get: a run needs a sleeping slot before the next one, so there are at most (H + 1) / 2 of them.
-use Prim.Native.Nat.{ℕ, _+_, _*_, _≤_}
+-- How large the figures of a table can get: a run needs a sleeping slot before the next one, so there are at most (H + 1) / 2 of them. And the
+-- figures of a set that is cut in two.
+use Prim.Native.Nat.{ℕ, suc, _+_, _*_, _≤_}
+use mathlib.Core.Path.{_≡_, sym, ap, _∙_}
 use mathlib.Core.Bool.{Bool, true, false}
-use mathlib.Core.List.{List, [], _∷_}
-use native.Mathlib.Nat.{mul-le-mul}
+use mathlib.Core.List.{List, [], _∷_, _++_}
+use native.Mathlib.Nat.{zero-add, suc-add, mul-le-mul}
 use native.Mathlib.Omega.{arith}
 use lib.ListN.{length}
 use Rattle.sched.specs.Jobs.{Jobs}
+use Rattle.sched.specs.Slots.{stateAfter}
 use Rattle.sched.specs.Energy.{awakeSlots, runsFrom, energy}
 
 pub awake-at-most : (S : List Bool) → awakeSlots S ≤ length S
@@ -27,11 +30,27 @@ runs-at-most false (false ∷ S) = omega (arith, runs-at-most false S)
 runs-at-most true (true ∷ S) = omega (arith, runs-at-most true S)
 runs-at-most false (true ∷ S) = omega (arith, runs-at-most true S)
 
--- half of H + 1 at the largest horizon
-pub runs-few : (S : List Bool) → length S ≤ 4096 → runsFrom false S ≤ 2048
+-- half of H + 1 at the largest horizon, from either state
+pub runs-few : (b : Bool) (S : List Bool) → length S ≤ 4096 → runsFrom b S ≤ 2048
 unfolding room
-runs-few S l = omega (arith, runs-at-most false S)
+runs-few true S l = omega (arith, runs-at-most true S)
+runs-few false S l = omega (arith, runs-at-most false S)
 
 -- "65,535 × 2,048 + 4,096": the energies of all tables fit 32 bits
 pub energy-at-most : (J : Jobs) (S : List Bool) → length S ≤ 4096 → J .wake ≤ 65535 → energy J S ≤ 65535 * 2048 + 4096
-energy-at-most J S l w = omega (arith, awake-at-most S, mul-le-mul w (runs-few S l))
+energy-at-most J S l w = omega (arith, awake-at-most S, mul-le-mul w (runs-few (J .start) S l))
+
+-- a set cut in two: the second part begins in the state that the first ends with
+
+pub awake-append : (S R : List Bool) → awakeSlots (S ++ R) ≡ awakeSlots S + awakeSlots R
+unfolding awakeSlots
+awake-append [] R = sym (zero-add (awakeSlots R))
+awake-append (true ∷ S) R = ap suc (awake-append S R) ∙ sym (suc-add (awakeSlots S) (awakeSlots R))
+awake-append (false ∷ S) R = awake-append S R
+
+pub runs-append : (b : Bool) (S R : List Bool) → runsFrom b (S ++ R) ≡ runsFrom b S + runsFrom (stateAfter b S) R
+unfolding runsFrom
+runs-append b [] R = sym (zero-add (runsFrom b R))
+runs-append b (false ∷ S) R = runs-append false S R
+runs-append true (true ∷ S) R = runs-append true S R
+runs-append false (true ∷ S) R = ap suc (runs-append true S R) ∙ sym (suc-add (runsFrom true S) (runsFrom (stateAfter true S) R))

@@ -1,4 +1,4 @@
--- `overload::arrive` meets its contract.
+-- `arrive` meets its contract: the next rank joins by its power of two.
 use borrow.Author.Needs.{needs}
 use Rattle.step1_overload.proofs.arrive.Statement.{statement}
 use Rattle.step1_overload.proofs.arrive.Tie as tie

@@ -1,4 +1,4 @@
--- `overload::comes_at` meets its contract, by its test.
+-- `comes_at` meets its contract, by its test.
 use native.Mathlib.Omega.{arith}
 use borrow.Author.Needs.{needs}
 use lib.ListN.{getD}
@@ -18,12 +18,12 @@ shared-slice-read-job c = c .before .before .before .pre .each _ (c .before .bef
 cast-job : tie.Need-cast-job
 cast-job c =
     let a = c .before .before .before .args in
-    omega (arith, c .shared-slice-known2 .given (getD (now (a .soon)) (a .i) 0))
+    omega (arith, c .shared-slice-known2 .given (getD (now (a .arrivals)) (a .i) 0))
 
 mul-result : tie.Need-mul-result
 mul-result c =
     let a = c .before .before .before .args in
-    omega (arith, c .shared-slice-known2 .given (getD (now (a .soon)) (a .i) 0))
+    omega (arith, c .shared-slice-known2 .given (getD (now (a .arrivals)) (a .i) 0))
 
 shared-slice-read-result : tie.Need-shared-slice-read-result
 shared-slice-read-result c = c .before .before .before .before .pre .each _ (c .before .before .before .if1 .taken) .job
@@ -31,7 +31,7 @@ shared-slice-read-result c = c .before .before .before .before .pre .each _ (c .
 cast-result : tie.Need-cast-result
 cast-result c =
     let a = c .before .before .before .before .args in
-    omega (arith, c .shared-slice-known3 .given (getD (now (a .order)) (getD (now (a .soon)) (a .i) 0) 0))
+    omega (arith, c .shared-slice-known3 .given (getD (now (a .ranks)) (getD (now (a .arrivals)) (a .i) 0) 0))
 
 returns : tie.Need-returns
 returns c = search needs

@@ -1,4 +1,4 @@
--- `overload::end_after` meets its contract, by its tests.
+-- `end_after` meets its contract, by its tests.
 use mathlib.Core.Path.{refl}
 use mathlib.Core.Logic.{inl, inr}
 use native.Mathlib.Omega.{arith}

@@ -1,4 +1,4 @@
--- `overload::find` meets its contract.
+-- `find` meets its contract: the least end and the greatest start for it are what 01 shows.
 use native.Mathlib.Omega.{arith}
 use borrow.Author.Needs.{needs}
 use Rattle.step1_overload.proofs.Showing.{shows-nothing, shows-at}
@@ -9,18 +9,20 @@ least-end-requires : tie.Need-least-end-requires
 least-end-requires c κs = search needs
 
 returns : tie.Need-returns
-returns c = shows-nothing _ _ (c .before .least-end .ensures) (omega (arith, c .if1 .taken))
+returns c = shows-nothing _ (c .before .least-end .ensures) (omega (arith, c .if1 .taken))
 
 start-for-requires : tie.Need-start-for-requires
 start-for-requires c κs = search needs
 
-cast-t11 : tie.Need-cast-t11
-cast-t11 c = search needs
+cast-t10 : tie.Need-cast-t10
+cast-t10 c = search needs
 
 returns-2 : tie.Need-returns-2
 returns-2 c =
-    let p = c .before .before .before .before .before .before .before .before .pre in
-    shows-at _ _ (c .before .before .least-end .ensures) _ _ (p .0) (p .1) (omega (arith, c .before .if1 .left)) _ (c .start-for .ensures)
+    let tested = c .before in
+    let found = tested .before in
+    shows-at _ (found .least-end .ensures) (found .before .before .before .before .before .before .pre) (omega (arith, tested .if1 .left)) _
+    (c .start-for .ensures)
 
 pub find-spec : {M : Type 1} → statement M
-find-spec = tie.close (tie.spec least-end-requires returns start-for-requires cast-t11 returns-2)
+find-spec = tie.close (tie.spec least-end-requires returns start-for-requires cast-t10 returns-2)

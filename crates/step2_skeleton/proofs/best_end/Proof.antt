@@ -1,3 +1,4 @@
+-- `step2_skeleton::best_end` meets its contract: after each window the best end of those looked at is known for every list.
 use Prim.Native.Nat.{_-_, _≤_}
 use native.Mathlib.Omega.{arith}
 use borrow.Author.Needs.{needs}
@@ -12,6 +13,9 @@ Inv-loop starts rests from low through best₀ k₀ best k = (from ≤ k) × End
 abbrev μ-loop : tie.MeasureT-loop
 μ-loop starts rests from low through best₀ k₀ best k = length starts - k
 
+abbrev lent : tie.At-loop Inv-loop μ-loop → tie.Start Inv-loop μ-loop
+lent c = c .before .before .before
+
 loop-holds : tie.Need-loop-holds Inv-loop μ-loop
 loop-holds c = search needs
 
@@ -22,10 +26,10 @@ shared-slice-read-end : tie.Need-shared-slice-read-end Inv-loop μ-loop
 shared-slice-read-end c = search needs
 
 add-end : tie.Need-add-end Inv-loop μ-loop
-add-end c = omega (arith, c .before .before .before .before .before .pre .2 (c .before .before .loop .k) (c .before .before .loop .inv .0) (c .before .loop-test .taken))
+add-end c = let at = c .before .before in omega (arith, lent at .pre .2 (at .loop .k) (at .loop .inv .0) (c .before .loop-test .taken))
 
 cast-better : tie.Need-cast-better Inv-loop μ-loop
-cast-better c = omega (arith, c .before .before .before .before .before .pre .2 (c .before .before .loop .k) (c .before .before .loop .inv .0) (c .before .loop-test .taken))
+cast-better c = let at = c .before .before in omega (arith, lent at .pre .2 (at .loop .k) (at .loop .inv .0) (c .before .loop-test .taken))
 
 mul-better : tie.Need-mul-better Inv-loop μ-loop
 mul-better c = search needs
@@ -34,7 +38,15 @@ shared-slice-read-better : tie.Need-shared-slice-read-better Inv-loop μ-loop
 shared-slice-read-better c = search needs
 
 add-better : tie.Need-add-better Inv-loop μ-loop
-add-better c = omega (arith, c .before .before .before .before .before .before .pre .2 (c .before .before .before .loop .k) (c .before .before .before .loop .inv .0) (c .before .before .loop-test .taken), c .before .before .before .before .before .before .pre .1 (c .before .before .before .loop .k) (c .before .before .before .loop .inv .0) (search needs))
+add-better c =
+    let at = c .before .before .before in
+    let pre = lent at .pre in
+    omega (
+      arith,
+      pre .2 (at .loop .k) (at .loop .inv .0) (c .before .before .loop-test .taken),
+      pre .1 (at .loop .k) (at .loop .inv .0)
+          (search needs),
+    )
 
 better-requires : tie.Need-better-requires Inv-loop μ-loop
 better-requires c κs = search needs
@@ -46,10 +58,15 @@ loop-less : tie.Need-loop-less Inv-loop μ-loop
 loop-less c = search needs
 
 loop-again : tie.Need-loop-again Inv-loop μ-loop
-loop-again c = (search needs, ended-turn _ (c .before .before .before .before .before .before .before .args .rests .now) _ _ _ _ _ _ _ _ (c .before .before .before .before .loop .inv .0) (c .before .before .before .loop-test .taken) (c .better .ensures .0) (c .better .ensures .1) (c .before .before .before .before .loop .inv .1))
+loop-again c =
+    let at = c .before .before .before .before in (
+      search needs,
+      ended-turn _ (lent at .args .rests .now) _ _ _ _ _ _ _ _ (at .loop .inv .0) (c .before .before .before .loop-test .taken)
+          (c .better .ensures .0) (c .better .ensures .1) (at .loop .inv .1),
+    )
 
 returns : tie.Need-returns Inv-loop μ-loop
-returns c = ended-end _ (c .before .before .before .before .args .rests .now) _ _ _ _ _ _ (c .loop-test .left) (c .before .loop .inv .1)
+returns c = ended-end _ (lent (c .before) .args .rests .now) _ _ _ _ _ _ (c .loop-test .left) (c .before .loop .inv .1)
 
 pub best-end-spec : {M : Type 1} → statement M
 best-end-spec =

@@ -1,3 +1,4 @@
+-- `step2_skeleton::draw` meets its contract: what is drawn so far and the runs still to come are the whole set.
 use Prim.Native.Nat.{_-_}
 use native.Mathlib.Omega.{arith}
 use borrow.Author.Needs.{needs}
@@ -12,6 +13,12 @@ Inv-loop starts ends untils table₀ s₀ i₀ table s i = Drawing starts ends u
 
 abbrev μ-loop : tie.MeasureT-loop
 μ-loop starts ends untils table₀ s₀ i₀ table s i = length starts - i
+
+abbrev lent : tie.At-loop Inv-loop μ-loop → tie.Start Inv-loop μ-loop
+lent c = c .before .before .before .before .before
+
+abbrev begun : tie.After-shared-slice-known6 Inv-loop μ-loop → tie.Else1 Inv-loop μ-loop
+begun c = c .before .before .before
 
 loop-holds : tie.Need-loop-holds Inv-loop μ-loop
 loop-holds c = drawing-start
@@ -47,13 +54,18 @@ mul-draw-run : tie.Need-mul-draw-run Inv-loop μ-loop
 mul-draw-run c = search needs
 
 shared-slice-read-draw-run : tie.Need-shared-slice-read-draw-run Inv-loop μ-loop
-shared-slice-read-draw-run c = omega (arith, ends-many _ _ _ _ (c .before .before .before .before .before .before .before .before .before .before .before .pre .windows))
+shared-slice-read-draw-run c =
+    let turn = c .before .before .before .before in
+    omega (arith, ends-many _ _ _ _ (lent (turn .before .before) .pre .windows))
 
 cast-draw-run : tie.Need-cast-draw-run Inv-loop μ-loop
-cast-draw-run c = omega (arith, c .shared-slice-known6 .given (c .before .before .before .before .before .before .loop .i))
+cast-draw-run c = omega (arith, c .shared-slice-known6 .given (begun c .before .before .before .loop .i))
 
 draw-run-requires : tie.Need-draw-run-requires Inv-loop μ-loop
-draw-run-requires c κs = run-fits (c .before .before .before .before .before .loop-test .taken) (c .before .before .before .before .before .before .loop .inv) (c .before .before .before .if1 .left) (c .before .before .before .before .before .before .before .before .before .before .before .pre)
+draw-run-requires c κs =
+    let new = begun c in
+    let turn = new .before .before in
+    run-fits (turn .loop-test .taken) (turn .before .loop .inv) (new .if1 .left) (lent (turn .before) .pre)
 
 add-i-2 : tie.Need-add-i-2 Inv-loop μ-loop
 add-i-2 c = search needs
@@ -62,7 +74,12 @@ loop-less-2 : tie.Need-loop-less-2 Inv-loop μ-loop
 loop-less-2 c = search needs
 
 loop-again-2 : tie.Need-loop-again-2 Inv-loop μ-loop
-loop-again-2 c = drawing-run (c .before .before .before .before .before .before .before .before .loop-test .taken) (c .before .before .before .before .before .before .before .before .before .loop .inv) (c .before .before .before .before .before .before .if1 .left) (c .before .before .before .before .before .before .before .before .before .before .before .before .before .before .pre) _ (c .before .before .draw-run .kept .0) (c .before .before .draw-run .ensures)
+loop-again-2 c =
+    let drew = c .before .before in
+    let new = begun (drew .before) in
+    let turn = new .before .before in
+    drawing-run (turn .loop-test .taken) (turn .before .loop .inv) (new .if1 .left) (lent (turn .before) .pre) _ (drew .draw-run .kept .0)
+    (drew .draw-run .ensures)
 
 fill-requires : tie.Need-fill-requires Inv-loop μ-loop
 fill-requires c κs = search needs
@@ -71,7 +88,10 @@ same-length : tie.Need-same-length Inv-loop μ-loop
 same-length c = search needs
 
 returns : tie.Need-returns Inv-loop μ-loop
-returns c = drawing-end (c .before .before .fill .last .0) (c .before .before .before .before .loop-test .left) (c .before .before .fill .kept .0) (c .before .before .fill .ensures) (c .before .before .before .before .before .loop .inv)
+returns c =
+    let rest = c .before .before in
+    let over = rest .before .before in
+    drawing-end (rest .fill .last .0) (over .loop-test .left) (rest .fill .kept .0) (rest .fill .ensures) (over .before .loop .inv)
 
 pub draw-spec : {M : Type 1} → statement M
 draw-spec =

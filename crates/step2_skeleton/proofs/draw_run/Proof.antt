@@ -1,3 +1,4 @@
+-- `step2_skeleton::draw_run` meets its contract: two stretches, one behind the other.
 use borrow.Author.Needs.{needs}
 use Rattle.step2_skeleton.proofs.Drawing.{drawn-run}
 use Rattle.step2_skeleton.proofs.draw_run.Statement.{statement}
@@ -13,7 +14,12 @@ same-length : tie.Need-same-length
 same-length c = search needs
 
 returns : tie.Need-returns
-returns c = drawn-run (c .before .before .before .before .before .before .before .before .before .args .table .now) (c .before .before .before .before .before .before .fill .last .0) (c .before .before .fill2 .last .0) (c .before .before .before .before .before .before .before .before .before .args .s) (c .before .before .before .before .before .before .before .before .before .args .first) (c .before .before .before .before .before .before .before .before .before .args .end) (c .before .before .before .before .before .before .fill .ensures) (c .before .before .fill2 .ensures)
+returns c =
+    let second = c .before .before in
+    let first = second .before .before .before .before in
+    let a = first .before .before .before .args in
+    drawn-run (a .table .now) (first .fill .last .0) (second .fill2 .last .0) (a .s) (a .first) (a .end) (first .fill .ensures)
+    (second .fill2 .ensures)
 
 pub draw-run-spec : {M : Type 1} → statement M
 draw-run-spec = tie.close (tie.spec fill-requires fill-requires-2 same-length returns)

@@ -1,3 +1,4 @@
+-- `step2_skeleton::fill` meets its contract: a byte a turn joins the stretch.
 use Prim.Native.Nat.{_-_}
 use borrow.Author.Needs.{needs}
 use Rattle.step2_skeleton.proofs.Drawing.{Poured, poured-start, poured-turn, poured-end}

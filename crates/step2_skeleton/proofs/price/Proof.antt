@@ -1,41 +1,69 @@
+-- `step2_skeleton::price` meets its contract: what is paid from the end of the window on is what its best end costs.
+use Prim.Native.Nat.{_≤_}
 use native.Mathlib.Omega.{arith}
 use borrow.Author.Needs.{needs}
 use Rattle.step2_skeleton.proofs.Pricing.{last-within, last-small, numbers-small, cost-small, rests-small, starts-small, paid-behind, paid-most, priced-step}
 use Rattle.step2_skeleton.proofs.price.Statement.{statement}
 use Rattle.step2_skeleton.proofs.price.Tie as tie
 
+-- the places that needs look back to, from the last to the first
+abbrev best : tie.After-wake-for → tie.After-best-end
+best c = c .before .before .before .before
+
+abbrev asleep : tie.After-best-end → tie.After-sleep-cost
+asleep c = c .before .before
+
+abbrev lent : tie.After-shared-slice-known3 → tie.Start
+lent c = c .before .before .before .before .before .before
+
+room : (s : tie.Start) → s .args .q ≤ 65535
+room s = search needs
+
 mul-t : tie.Need-mul-t
 mul-t c = search needs
 
 shared-slice-read-t : tie.Need-shared-slice-read-t
-shared-slice-read-t c = last-within (c .before .before .before .before .before .before .pre) (search needs)
+shared-slice-read-t c = let s = c .before .before .before .before .before .before in last-within (s .pre) (room s)
 
 add-low : tie.Need-add-low
-add-low c = omega (arith, last-small (c .before .before .before .before .before .before .pre) (search needs))
+add-low c = omega (arith, last-small (lent c .pre) (room (lent c)))
 
 add-sleep-cost : tie.Need-add-sleep-cost
 add-sleep-cost c = search needs
 
 sleep-cost-requires : tie.Need-sleep-cost-requires
-sleep-cost-requires c κs = (c .before .before .before .before .before .before .before .pre .numbers-many, numbers-small (c .before .before .before .before .before .before .before .pre) (search needs))
+sleep-cost-requires c κs = let s = lent (c .before) in (s .pre .numbers-many, numbers-small (s .pre) (room s))
 
 add-best-end : tie.Need-add-best-end
 add-best-end c = search needs
 
 cast-best-end : tie.Need-cast-best-end
-cast-best-end c = omega (arith, last-small (c .before .before .before .before .before .before .before .before .before .pre) (search needs))
+cast-best-end c = let s = lent (c .before .before .before) in omega (arith, last-small (s .pre) (room s))
 
 add-best-end-2 : tie.Need-add-best-end-2
-add-best-end-2 c = omega (arith, last-small (c .before .before .before .before .before .before .before .before .before .pre) (search needs), cost-small (c .before .before .before .before .before .before .before .before .before .pre) (search needs) (c .before .sleep-cost .result) (c .before .sleep-cost .ensures))
+add-best-end-2 c =
+    let z = c .before in
+    let s = lent (z .before .before) in
+    omega (arith, last-small (s .pre) (room s), cost-small (s .pre) (room s) (z .sleep-cost .result) (z .sleep-cost .ensures))
 
 best-end-requires : tie.Need-best-end-requires
-best-end-requires c κs = (c .before .before .before .before .before .before .before .before .before .pre .rests-many, rests-small (c .before .before .before .before .before .before .before .before .before .pre) (search needs), starts-small (c .before .before .before .before .before .before .before .before .before .pre) (search needs))
+best-end-requires c κs =
+    let s = lent (c .before .before .before) in
+    (s .pre .rests-many, rests-small (s .pre) (room s), starts-small (s .pre) (room s))
 
 cast-value : tie.Need-cast-value
-cast-value c = omega (arith, last-small (c .before .before .before .before .before .before .before .before .before .before .pre) (search needs))
+cast-value c = let s = lent (asleep c .before .before) in omega (arith, last-small (s .pre) (room s))
 
 sub-value : tie.Need-sub-value
-sub-value c = omega (arith, paid-behind (c .before .before .before .before .before .before .before .before .before .before .before .pre) (search needs) (c .before .before .before .sleep-cost .result) (c .before .before .before .sleep-cost .ensures) (c .before .best-end .result .end) (c .before .best-end .result .through) (c .before .best-end .ensures))
+sub-value c =
+    let b = c .before in
+    let z = asleep b in
+    let s = lent (z .before .before) in
+    omega (
+      arith,
+      paid-behind (s .pre) (room s) (z .sleep-cost .result) (z .sleep-cost .ensures) (b .best-end .result .end) (b .best-end .result .through)
+          (b .best-end .ensures),
+    )
 
 mul-values : tie.Need-mul-values
 mul-values c = search needs
@@ -56,7 +84,15 @@ shared-slice-read-wake-for : tie.Need-shared-slice-read-wake-for
 shared-slice-read-wake-for c = search needs
 
 add-wake-for : tie.Need-add-wake-for
-add-wake-for c = omega (arith, paid-most (c .before .before .before .before .before .before .before .before .before .before .before .before .pre) (search needs) (c .before .before .before .before .sleep-cost .result) (c .before .before .before .before .sleep-cost .ensures) (c .before .before .best-end .result .end) (c .before .before .best-end .result .through) (c .before .before .best-end .ensures))
+add-wake-for c =
+    let b = c .before .before in
+    let z = asleep b in
+    let s = lent (z .before .before) in
+    omega (
+      arith,
+      paid-most (s .pre) (room s) (z .sleep-cost .result) (z .sleep-cost .ensures) (b .best-end .result .end) (b .best-end .result .through)
+          (b .best-end .ensures),
+    )
 
 wake-for-requires : tie.Need-wake-for-requires
 wake-for-requires c κs = search needs
@@ -71,7 +107,13 @@ same-length-3 : tie.Need-same-length-3
 same-length-3 c = search needs
 
 returns : tie.Need-returns
-returns c = priced-step (c .before .before .before .before .before .before .before .before .before .before .before .before .before .before .before .before .pre) (search needs) (c .before .before .before .before .before .before .before .before .sleep-cost .result) (c .before .before .before .before .before .before .before .before .sleep-cost .ensures) (c .before .before .before .before .before .before .best-end .result .end) (c .before .before .before .before .before .before .best-end .result .through) (c .before .before .before .before .before .before .best-end .ensures) (c .before .before .wake-for .last .1 .1 .1 .0) (c .before .before .wake-for .ensures)
+returns c =
+    let woke = c .before .before in
+    let b = best woke in
+    let z = asleep b in
+    let s = lent (z .before .before) in
+    priced-step (s .pre) (room s) (z .sleep-cost .result) (z .sleep-cost .ensures) (b .best-end .result .end) (b .best-end .result .through)
+    (b .best-end .ensures) (woke .wake-for .last .1 .1 .1 .0) (woke .wake-for .ensures)
 
 pub price-spec : {M : Type 1} → statement M
 price-spec =

@@ -1,3 +1,4 @@
+-- `step2_skeleton::rest_of` meets its contract, by its test.
 use borrow.Author.Tests.{lt-ltb, le-ltb}
 use Rattle.step2_skeleton.proofs.rest_of.Statement.{statement}
 use Rattle.step2_skeleton.proofs.rest_of.Tie as tie

@@ -1,3 +1,4 @@
+-- `step2_skeleton::sleep_cost` meets its contract: no window passed so far is waked for, and the first that is not passed is.
 use Prim.Native.Nat.{_-_, _≤_}
 use native.Mathlib.Omega.{arith}
 use borrow.Author.Needs.{needs}
@@ -28,10 +29,15 @@ shared-slice-read-result : tie.Need-shared-slice-read-result Inv-loop μ-loop
 shared-slice-read-result c = search needs
 
 add-result : tie.Need-add-result Inv-loop μ-loop
-add-result c = omega (arith, c .before .before .before .before .before .pre .1 (c .before .before .before .before .loop .k) (c .before .before .before .before .loop .inv .0) (search needs))
+add-result c =
+    let at = c .before .before .before .before in
+    omega (arith, at .before .pre .1 (at .loop .k) (at .loop .inv .0) (search needs))
 
 returns : tie.Need-returns Inv-loop μ-loop
-returns c = asleep-found _ _ _ (c .before .before .before .before .before .args .from) _ _ (c .before .before .before .before .before .pre .0) (c .before .before .before .before .loop .inv .1) (c .before .before .before .loop-test .taken) (c .before .if1 .taken)
+returns c =
+    let turn = c .before .before .before in
+    let start = turn .before .before in
+    asleep-found _ _ _ (start .args .from) _ _ (start .pre .0) (turn .before .loop .inv .1) (turn .loop-test .taken) (c .before .if1 .taken)
 
 add-k : tie.Need-add-k Inv-loop μ-loop
 add-k c = search needs
@@ -40,10 +46,13 @@ loop-less : tie.Need-loop-less Inv-loop μ-loop
 loop-less c = search needs
 
 loop-again : tie.Need-loop-again Inv-loop μ-loop
-loop-again c = (search needs, asleep-turn _ _ _ (c .before .before .before .before .args .from) _ _ (c .before .before .before .before .pre .0) (c .before .before .before .loop .inv .1) (c .before .before .loop-test .taken) (c .if1 .left))
+loop-again c =
+    let turn = c .before .before in
+    let start = turn .before .before in
+    (search needs, asleep-turn _ _ _ (start .args .from) _ _ (start .pre .0) (turn .before .loop .inv .1) (turn .loop-test .taken) (c .if1 .left))
 
 returns-2 : tie.Need-returns-2 Inv-loop μ-loop
-returns-2 c = asleep-end _ _ _ (c .before .before .args .from) _ _ (c .before .before .pre .0) (c .before .loop .inv .1) (c .loop-test .left)
+returns-2 c = let start = c .before .before in asleep-end _ _ _ (start .args .from) _ _ (start .pre .0) (c .before .loop .inv .1) (c .loop-test .left)
 
 pub sleep-cost-spec : {M : Type 1} → statement M
 sleep-cost-spec =

@@ -1,3 +1,4 @@
+-- `step2_skeleton::wake_for` meets its contract: the numbers before place k are new, the others as they were.
 use Prim.Native.Nat.{_-_}
 use borrow.Author.Needs.{needs}
 use lib.ListN.{length}
@@ -42,7 +43,9 @@ loop-less : tie.Need-loop-less Inv-loop μ-loop
 loop-less c = search needs
 
 loop-again : tie.Need-loop-again Inv-loop μ-loop
-loop-again c = waked-turn _ _ _ _ _ _ _ (c .before .before .before .loop-test .taken) (c .rest-of .ensures) (c .before .before .before .before .loop .inv)
+loop-again c =
+    let turn = c .before .before .before in
+    waked-turn _ _ _ _ _ _ _ (turn .loop-test .taken) (c .rest-of .ensures) (turn .before .loop .inv)
 
 same-length : tie.Need-same-length Inv-loop μ-loop
 same-length c = search needs

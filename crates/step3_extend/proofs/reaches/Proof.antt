@@ -7,10 +7,10 @@ use Rattle.step3_extend.proofs.reaches.Statement.{statement}
 use Rattle.step3_extend.proofs.reaches.Tie as tie
 
 abbrev Inv-loop : tie.InvT-loop
-Inv-loop due lost ends reach₀ k₀ reach k = Reaching due lost ends reach k
+Inv-loop deadlines lost ends reach₀ k₀ reach k = Reaching deadlines lost ends reach k
 
 abbrev μ-loop : tie.MeasureT-loop
-μ-loop due lost ends reach₀ k₀ reach k = 64 - k
+μ-loop deadlines lost ends reach₀ k₀ reach k = 64 - k
 
 loop-holds : tie.Need-loop-holds Inv-loop μ-loop
 loop-holds c = reaching-start _ _ _ _ refl
@@ -49,7 +49,9 @@ loop-less : tie.Need-loop-less Inv-loop μ-loop
 loop-less c = search needs
 
 loop-again : tie.Need-loop-again Inv-loop μ-loop
-loop-again c = reaching-turn _ _ _ _ _ _ (c .before .before .before .before .loop-test .taken) (c .reach-of .ensures) (c .before .before .before .before .before .loop .inv)
+loop-again c =
+    let turn = c .before .before .before .before in
+    reaching-turn _ _ _ _ _ _ (turn .loop-test .taken) (c .reach-of .ensures) (turn .before .loop .inv)
 
 returns : tie.Need-returns Inv-loop μ-loop
 returns c = reaching-end _ _ _ _ _ (c .loop-test .left) (c .before .loop .inv)

@@ -1,4 +1,4 @@
--- `chain::end_below` meets its contract: it scans downwards as `endBelow` does, and a slot that holds the byte stays below.
+-- `step3_slot::end_below` meets its contract: it scans downwards as `endBelow` does, and a slot that holds the byte stays below.
 use Rattle.laws_extension.specs.Chain.Ends.{scan-turn, scan-found, scan-above}
 use Rattle.laws_extension.specs.Chain.{endBelow}
 use Rattle.step3_slot.specs.Books.{Stops}

@@ -1,8 +1,11 @@
--- `chain::gain` meets its contract: its stores are those of `gainedAt`.
+-- `step3_slot::gain` meets its contract: its stores are those of `gainedAt`.
 use Rattle.step3_slot.proofs.Gaining.{gained-last, gained-one}
 use borrow.Author.Needs.{needs}
 use Rattle.step3_slot.proofs.gain.Statement.{statement}
 use Rattle.step3_slot.proofs.gain.Tie as tie
+
+abbrev lent : tie.After-later → tie.Start
+lent c = c .before .before .before .before .before .before .before .before
 
 shared-slice-read-table : tie.Need-shared-slice-read-table
 shared-slice-read-table c = search needs
@@ -64,7 +67,7 @@ same-length-4 c = search needs
 returns : tie.Need-returns
 returns c =
     let called = c .before .before .before in
-    gained-last (called .before .before .before .before .before .before .before .before .pre) _ (called .later .ensures) (c .if1 .taken)
+    gained-last (lent called .pre) _ (called .later .ensures) (c .if1 .taken)
 
 same-length-5 : tie.Need-same-length-5
 same-length-5 c = search needs
@@ -78,7 +81,7 @@ same-length-7 c = search needs
 returns-2 : tie.Need-returns-2
 returns-2 c =
     let called = c .before .before .before in
-    gained-one (called .before .before .before .before .before .before .before .before .pre) _ (called .later .ensures) (c .if1 .left)
+    gained-one (lent called .pre) _ (called .later .ensures) (c .if1 .left)
 
 pub gain-spec : {M : Type 1} → statement M
 gain-spec =

@@ -1,4 +1,4 @@
--- `chain::held` meets its contract.
+-- `step3_slot::held` meets its contract: only the first note took a slot that slept.
 use Rattle.step3_slot.proofs.Undoing.{held-first, held-later}
 use Prim.Native.Nat.{_-_}
 use native.Mathlib.Omega.{arith}

@@ -1,4 +1,4 @@
--- `chain::undo` meets its contract: each turn puts one note back.
+-- `step3_slot::undo` meets its contract: each turn puts one note back.
 use Rattle.step3_slot.proofs.Undoing.{Undoing, undoing-start, undoing-rank, undoing-slot, undoing-recall, undoing-turn, undoing-end}
 use Prim.Native.Nat.{_-_}
 use native.Mathlib.Omega.{arith}
@@ -7,11 +7,11 @@ use Rattle.step3_slot.proofs.undo.Statement.{statement}
 use Rattle.step3_slot.proofs.undo.Tie as tie
 
 abbrev Inv-loop : tie.InvT-loop
-Inv-loop noted last ranks slots order reach₀ table₀ at₀ i₀ reach table at i =
-    Undoing noted last ranks slots order reach₀ table₀ reach table at i
+Inv-loop noted last takers taken ranks reach₀ table₀ at₀ i₀ reach table at i =
+    Undoing noted last takers taken ranks reach₀ table₀ reach table at i
 
 abbrev μ-loop : tie.MeasureT-loop
-μ-loop noted last ranks slots order reach₀ table₀ at₀ i₀ reach table at i = i
+μ-loop noted last takers taken ranks reach₀ table₀ at₀ i₀ reach table at i = i
 
 loop-holds : tie.Need-loop-holds Inv-loop μ-loop
 loop-holds c = undoing-start (c .before .before .before .before .before .pre)

@@ -1,4 +1,4 @@
--- `entry::field` meets its contract.
+-- `entry::field` meets its contract: a field that stands is the number there, another has its absent value.
 use borrow.Author.Needs.{needs}
 use mathlib.Core.Path.{ap}
 use native.Mathlib.Omega.{arith}

@@ -1,4 +1,4 @@
--- `entry::is_redundant` meets its contract.
+-- `entry::is_redundant` meets its contract: the test of a field that stands is its value's.
 use borrow.Author.Needs.{needs}
 use Rattle.joblist.proofs.entry.is_redundant.Statement.{statement}
 use Rattle.joblist.proofs.entry.is_redundant.Tie as tie

@@ -1,28 +1,44 @@
--- `entry::read_fields` meets its contract: the tests are those of `fieldsCheck`, in its order.
+-- `entry::read_fields` meets its contract: each field is read where the one before it ends, and tested in the order of `redundancyCheck`.
 use borrow.Author.Needs.{needs}
-use mathlib.Core.Path.{refl, ap}
-use mathlib.Core.Bool.{false}
+use mathlib.Core.Path.{_≡_, refl, ap}
+use mathlib.Core.Bool.{Bool, true, false}
 use native.Mathlib.Omega.{arith}
 use Rattle.joblist.specs.Bytes.{width}
-use Rattle.joblist.proofs.Fields.{First, Second, Third, field-read, release-refused, deadline-refused, volume-refused, job-refused, job-read}
+use Rattle.joblist.proofs.Fields.{First, Second, Third, field-read, release-refused, deadline-refused, volume-refused, fields-read}
 use Rattle.joblist.proofs.entry.read_fields.Statement.{statement}
 use Rattle.joblist.proofs.entry.read_fields.Tie as tie
 
--- the fields as they were read, each behind the test that it passed
-first : (c : tie.Else1) → First (c .before .before .before .before .before .before .args .bytes .now) (c .before .before .field .result) false
-first c =
-    field-read (c .before .before .before .has-release .ensures) refl
-    (c .before .before .field .ensures) (c .before .is-redundant .ensures) (c .if1 .left)
+-- the start, seen from the test of each field
+abbrev at-1 : tie.After-is-redundant → tie.Start
+at-1 c = c .before .before .before .before .before
 
-second : (c : tie.Else2) → Second (c .before .before .before .before .before .before .before .before .before .before .args .h) (c .before .before .before .before .before .before .before .before .before .before .args .bytes .now) (c .before .before .field2 .result) false
-second c =
-    field-read (c .before .before .before .has-deadline .ensures) (first (c .before .before .before .before) .next)
-    (c .before .before .field2 .ensures) (c .before .is-redundant2 .ensures) (c .if2 .left)
+abbrev at-2 : tie.After-is-redundant2 → tie.Start
+at-2 c = at-1 (c .before .before .before .before)
 
-third : (c : tie.Else3) → Third (c .before .before .before .before .before .before .before .before .before .before .before .before .before .before .args .bytes .now) (c .before .before .field3 .result) false
-third c =
-    field-read (c .before .before .before .has-volume .ensures) (second (c .before .before .before .before) .next)
-    (c .before .before .field3 .ensures) (c .before .is-redundant3 .ensures) (c .if3 .left)
+abbrev at-3 : tie.After-is-redundant3 → tie.Start
+at-3 c = at-2 (c .before .before .before .before)
+
+-- the fields as they were read, and what their tests found
+first : (c : tie.After-is-redundant) (test : Bool) → c .is-redundant .result ≡ test → First (at-1 c .args .bytes .now) (c .before .field .result) test
+first c test e = field-read (c .before .before .has-release .ensures) refl (c .before .field .ensures) (c .is-redundant .ensures) e
+
+first-left : (c : tie.Else1) → First (at-1 (c .before) .args .bytes .now) (c .before .before .field .result) false
+first-left c = first (c .before) false (c .if1 .left)
+
+second : (c : tie.After-is-redundant2) (test : Bool) → c .is-redundant2 .result ≡ test →
+    Second (at-2 c .args .h) (at-2 c .args .bytes .now) (c .before .field2 .result) test
+second c test e =
+    field-read (c .before .before .has-deadline .ensures) (first-left (c .before .before .before) .next) (c .before .field2 .ensures)
+    (c .is-redundant2 .ensures) e
+
+second-left : (c : tie.Else2) → Second (at-2 (c .before) .args .h) (at-2 (c .before) .args .bytes .now) (c .before .before .field2 .result) false
+second-left c = second (c .before) false (c .if2 .left)
+
+third : (c : tie.After-is-redundant3) (test : Bool) → c .is-redundant3 .result ≡ test →
+    Third (at-3 c .args .bytes .now) (c .before .field3 .result) test
+third c test e =
+    field-read (c .before .before .has-volume .ensures) (second-left (c .before .before .before) .next) (c .before .field3 .ensures)
+    (c .is-redundant3 .ensures) e
 
 shared-slice-read-map : tie.Need-shared-slice-read-map
 shared-slice-read-map c = search needs
@@ -36,82 +52,63 @@ field-requires c κs = omega (arith, c .before .before .before .pre .whole, ap w
 is-redundant-requires : tie.Need-is-redundant-requires
 is-redundant-requires c κs = search needs
 
-add-t16 : tie.Need-add-t16
-add-t16 c = search needs
+add-t14 : tie.Need-add-t14
+add-t14 c = search needs
 
 returns : tie.Need-returns
 returns c =
-    let a = c .before .before .before .before .before .before .args in
-    release-refused (a .h) (a .job) (a .at) (a .bytes .now)
-    (field-read (c .before .before .before .has-release .ensures) refl
-    (c .before .before .field .ensures) (c .before .is-redundant .ensures) (c .if1 .taken))
+    let a = at-1 (c .before) .args in
+    release-refused (a .h) (a .at) (a .bytes .now) (first (c .before) true (c .if1 .taken))
 
 has-deadline-requires : tie.Need-has-deadline-requires
 has-deadline-requires c κs = search needs
 
 field-requires-2 : tie.Need-field-requires-2
-field-requires-2 c κs =
-    omega (arith, c .before .before .before .before .before .before .before .pre .whole, first (c .before) .next, ap width (c .has-deadline .ensures))
+field-requires-2 c κs = omega (arith, at-1 (c .before .before) .pre .whole, first-left (c .before) .next, ap width (c .has-deadline .ensures))
 
 is-redundant-requires-2 : tie.Need-is-redundant-requires-2
 is-redundant-requires-2 c κs = search needs
 
-add-t19 : tie.Need-add-t19
-add-t19 c = let d = c .before .before .before .before .before in omega (arith, d .before .before .before .before .before .before .pre, first d .next)
+add-t17 : tie.Need-add-t17
+add-t17 c =
+    let test = c .before .before in
+    omega (arith, at-2 test .pre, first-left (test .before .before .before) .next)
 
 returns-2 : tie.Need-returns-2
 returns-2 c =
-    let d = c .before in
-    let a = d .before .before .before .before .before .before .before .before .before .before .args in
-    deadline-refused (a .h) (a .job) (a .at) (a .bytes .now) (first (d .before .before .before .before))
-    (field-read (d .before .before .before .has-deadline .ensures) (first (d .before .before .before .before) .next)
-    (d .before .before .field2 .ensures) (d .before .is-redundant2 .ensures) (d .if2 .taken))
+    let test = c .before .before in
+    let a = at-2 test .args in
+    deadline-refused (a .h) (a .at) (a .bytes .now) (first-left (test .before .before .before)) (second test true (c .before .if2 .taken))
 
 has-volume-requires : tie.Need-has-volume-requires
 has-volume-requires c κs = search needs
 
 field-requires-3 : tie.Need-field-requires-3
-field-requires-3 c κs =
-    omega (arith, c .before .before .before .before .before .before .before .before .before .before .before .pre .whole, second (c .before) .next, ap width (c .has-volume .ensures))
+field-requires-3 c κs = omega (arith, at-2 (c .before .before) .pre .whole, second-left (c .before) .next, ap width (c .has-volume .ensures))
 
 is-redundant-requires-3 : tie.Need-is-redundant-requires-3
 is-redundant-requires-3 c κs = search needs
 
-add-t22 : tie.Need-add-t22
-add-t22 c = let d = c .before .before .before .before .before in omega (arith, d .before .before .before .before .before .before .before .before .before .before .pre, second d .next)
+add-t20 : tie.Need-add-t20
+add-t20 c =
+    let test = c .before .before in
+    omega (arith, at-3 test .pre, second-left (test .before .before .before) .next)
 
 returns-3 : tie.Need-returns-3
 returns-3 c =
-    let d = c .before in
-    let a = d .before .before .before .before .before .before .before .before .before .before .before .before .before .before .args in
-    volume-refused (a .h) (a .job) (a .at) (a .bytes .now) (first (d .before .before .before .before .before .before .before .before)) (second (d .before .before .before .before))
-    (field-read (d .before .before .before .has-volume .ensures) (second (d .before .before .before .before) .next)
-    (d .before .before .field3 .ensures) (d .before .is-redundant3 .ensures) (d .if3 .taken))
-
-check-job-requires : tie.Need-check-job-requires
-check-job-requires c κs = search needs
-
-enum-told : tie.Need-enum-told
-enum-told c = search needs
-
-enum-known-r : tie.Need-enum-known-r
-enum-known-r c = search needs
+    let test = c .before .before in
+    let a = at-3 test .args in
+    let left = test .before .before .before in
+    volume-refused (a .h) (a .at) (a .bytes .now) (first-left (left .before .before .before .before)) (second-left left)
+    (third test true (c .before .if3 .taken))
 
 returns-4 : tie.Need-returns-4
 returns-4 c =
-    let d = c .before .before .before in
-    let j = c .before .before .check-job in
-    let a = d .before .before .before .before .before .before .before .before .before .before .before .before .before .before .args in
-    job-read (a .h) (a .job) (a .at) (a .bytes .now) (first (d .before .before .before .before .before .before .before .before)) (second (d .before .before .before .before)) (third d)
-    (j .result) (j .ensures) (c .enum-told .given .1)
-
-returns-5 : tie.Need-returns-5
-returns-5 c =
-    let d = c .before .before .before .before in
-    let j = c .before .before .before .check-job in
-    let a = d .before .before .before .before .before .before .before .before .before .before .before .before .before .before .args in
-    job-refused (a .h) (a .job) (a .at) (a .bytes .now) (first (d .before .before .before .before .before .before .before .before)) (second (d .before .before .before .before)) (third d)
-    (j .result) (j .ensures) _ (c .before .r .given .1)
+    let test = c .before in
+    let a = at-3 test .args in
+    let left = test .before .before .before in
+    fields-read (a .h) (a .at) (a .bytes .now) (first-left (left .before .before .before .before)) (second-left left)
+    (third test false (c .if3 .left))
 
 pub read-fields-spec : {M : Type 1} → statement M
 read-fields-spec =
@@ -121,20 +118,16 @@ read-fields-spec =
     has-release-requires
     field-requires
     is-redundant-requires
-    add-t16
+    add-t14
     returns
     has-deadline-requires
     field-requires-2
     is-redundant-requires-2
-    add-t19
+    add-t17
     returns-2
     has-volume-requires
     field-requires-3
     is-redundant-requires-3
-    add-t22
+    add-t20
     returns-3
-    check-job-requires
-    enum-told
-    enum-known-r
-    returns-4
-    returns-5)
+    returns-4)

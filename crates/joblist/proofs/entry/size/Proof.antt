@@ -1,7 +1,8 @@
--- `entry::size` meets its contract.
+-- `entry::size` meets its contract: the map byte and the widths of the three fields.
 use borrow.Author.Needs.{needs}
 use native.Mathlib.Omega.{arith}
-use Rattle.joblist.proofs.Fields.{width-small}
+use Rattle.joblist.specs.Laws.Places.{width-small}
+use Rattle.joblist.proofs.Fields.{size-is}
 use Rattle.joblist.proofs.entry.size.Statement.{statement}
 use Rattle.joblist.proofs.entry.size.Tie as tie
 
@@ -46,7 +47,11 @@ add-result-3 c =
     )
 
 returns : tie.Need-returns
-returns c = cc
+returns c =
+    let d = c .before .before in
+    let r = d .before .before in
+    size-is (r .before .before .args .map) (r .before .has-release .ensures) (d .before .has-deadline .ensures) (c .before .has-volume .ensures)
+    (r .width .ensures) (d .width2 .ensures) (c .width3 .ensures)
 
 pub size-spec : {M : Type 1} → statement M
 size-spec =

@@ -1,9 +1,7 @@
--- `reader::check_header` meets its contract: the tests are those of `headerCheck`, in its order.
+-- `reader::check_header` meets its contract: the length decides, then H, then the count, in the order of `headerCheck`.
 use borrow.Author.Needs.{needs}
-use borrow.Author.Tests.{lt-ltb, le-ltb, eq-eqb, ne-eqb}
-use native.Mathlib.Omega.{arith}
-use lib.ListN.{length}
-use Rattle.joblist.specs.Bytes.{headerHorizon, headerCount}
+use borrow.Author.Tests.{lt-ltb}
+use Rattle.joblist.proofs.Promises.{horizon-refused, count-decides}
 use Rattle.joblist.proofs.reader.check_header.Statement.{statement}
 use Rattle.joblist.proofs.reader.check_header.Tie as tie
 
@@ -13,24 +11,41 @@ returns c = simp (lt-ltb _ _ (c .if1 .taken))
 header-requires : tie.Need-header-requires
 header-requires c κs = search needs
 
+check-horizon-requires : tie.Need-check-horizon-requires
+check-horizon-requires c κs = search needs
+
+enum-told : tie.Need-enum-told
+enum-told c = search needs
+
+check-count-requires : tie.Need-check-count-requires
+check-count-requires c κs = search needs
+
+enum-known-r : tie.Need-enum-known-r
+enum-known-r c = search needs
+
 returns-2 : tie.Need-returns-2
-returns-2 c = let b = c .before .before .before .before .before .args .bytes .now in simp (le-ltb (length b) 5 (omega arith), eq-eqb (headerHorizon b) 0 (omega arith))
+returns-2 c =
+    let horizon = c .before .before .before in
+    let header = horizon .before in
+    count-decides (header .before .before .before .args .bytes .now) (header .header .result) (header .header .ensures) (header .before .if1 .left)
+    _ (horizon .check-horizon .ensures) _ (c .before .enum-told .given .1) (c .check-count .ensures)
 
 returns-3 : tie.Need-returns-3
 returns-3 c =
-    let b = c .before .before .before .before .before .before .before .args .bytes .now in
-    simp (le-ltb (length b) 5 (omega arith), ne-eqb (headerHorizon b) 0 (omega arith), lt-ltb 4096 (headerHorizon b) (omega arith))
-
-returns-4 : tie.Need-returns-4
-returns-4 c =
-    let b = c .before .before .before .before .before .before .before .before .before .args .bytes .now in
-    simp (le-ltb (length b) 5 (omega arith), ne-eqb (headerHorizon b) 0 (omega arith), le-ltb 4096 (headerHorizon b) (omega arith), lt-ltb 64 (headerCount b) (omega arith))
-
-returns-5 : tie.Need-returns-5
-returns-5 c =
-    let b = c .before .before .before .before .before .before .before .before .before .args .bytes .now in
-    simp (le-ltb (length b) 5 (omega arith), ne-eqb (headerHorizon b) 0 (omega arith), le-ltb 4096 (headerHorizon b) (omega arith), le-ltb 64 (headerCount b) (omega arith))
+    let horizon = c .before .before .before in
+    let header = horizon .before in
+    horizon-refused (header .before .before .before .args .bytes .now) (header .header .result) (header .header .ensures) (header .before .if1 .left)
+    _ (horizon .check-horizon .ensures) _ (c .before .r .given .1)
 
 pub check-header-spec : {M : Type 1} → statement M
 check-header-spec =
-    tie.close (tie.spec returns header-requires returns-2 returns-3 returns-4 returns-5)
+    tie.close
+    (tie.spec
+    returns
+    header-requires
+    check-horizon-requires
+    enum-told
+    check-count-requires
+    enum-known-r
+    returns-2
+    returns-3)

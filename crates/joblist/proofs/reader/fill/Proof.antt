@@ -4,6 +4,10 @@ use Rattle.joblist.proofs.Copied.{fill-passed, fill-refused}
 use Rattle.joblist.proofs.reader.fill.Statement.{statement}
 use Rattle.joblist.proofs.reader.fill.Tie as tie
 
+-- the walk, seen from behind it
+abbrev walked : tie.After-third2 → tie.After-walk
+walked c = c .before .before .before
+
 slice-aggregate-walk : tie.Need-slice-aggregate-walk
 slice-aggregate-walk c = search needs
 
@@ -51,14 +55,17 @@ same-length-3 c = search needs
 
 returns : tie.Need-returns
 returns c =
-    let k = c .before .before .before .before .before .before .before in
-    let j = k .before .before .before .before .before in
-    let m = j .before .before .before in
-    fill-passed (m .before .before .before .before .before .walk .ensures) (m .enum-told .given .1)
-    (j .copy .ensures) (k .copy2 .ensures) (c .before .before .copy3 .ensures)
+    let third = c .before .before in
+    let deadlines = third .before .before .before .before in
+    let second = deadlines .before in
+    let releases = second .before .before .before .before in
+    let first = releases .before in
+    let told = first .before .before .before in
+    fill-passed (walked (told .before .before) .walk .ensures) (told .enum-told .given .1)
+    (first .copy .ensures) (second .copy2 .ensures) (third .copy3 .ensures)
 
 returns-2 : tie.Need-returns-2
-returns-2 c = fill-refused (c .before .before .before .before .before .before .walk .ensures) _ (c .before .r .given .1)
+returns-2 c = fill-refused (walked (c .before .before .before) .walk .ensures) _ (c .before .r .given .1)
 
 pub fill-spec : {M : Type 1} → statement M
 fill-spec =

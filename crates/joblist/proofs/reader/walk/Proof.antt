@@ -14,6 +14,13 @@ abbrev μ-loop : tie.MeasureT-loop
 μ-loop h count bytes releases₀ deadlines₀ volumes₀ total at₀ job₀ releases deadlines volumes at job =
     count - job
 
+-- the start, seen from the loop, and the loop, seen from the entry that is read
+abbrev start : tie.At-loop Inv-loop μ-loop → tie.Start Inv-loop μ-loop
+start c = c .before .before .before .before .before
+
+abbrev looped : tie.After-read Inv-loop μ-loop → tie.At-loop Inv-loop μ-loop
+looped c = c .before .before .before
+
 loop-holds : tie.Need-loop-holds Inv-loop μ-loop
 loop-holds c = walk-start (c .before .before .before .before .pre)
 
@@ -28,8 +35,8 @@ part-rest-end c = search needs
 
 read-requires : tie.Need-read-requires Inv-loop μ-loop
 read-requires c κs =
-    let l = c .before .before .loop in
-    part-length (l .at) (c .before .before .before .before .before .before .before .args .bytes .now) (l .inv .inside)
+    let here = c .before .before in
+    part-length (here .loop .at) (start here .args .bytes .now) (here .loop .inv .inside)
 
 enum-known-f : tie.Need-enum-known-f Inv-loop μ-loop
 enum-known-f c = search needs
@@ -54,12 +61,12 @@ slice-write-volumes c = search needs
 
 add-at : tie.Need-add-at Inv-loop μ-loop
 add-at c =
-    let k = c .before .before .before .before .read in
-    let t = c .before .before .before .before .before .before in
-    let l = t .before .loop in
     let f = c .before .before .f .given in
-    let b = t .before .before .before .before .before .before .args .bytes .now in
-    omega (arith, walk-inside (l .inv) (t .loop-test .taken) (part-rest (l .at) b) (k .ensures) (f .0 .0) (f .1))
+    let read = c .before .before .before .before .read in
+    let test = c .before .before .before .before .before .before in
+    let loop = test .before .loop in
+    let bytes = start (test .before) .args .bytes .now in
+    omega (arith, walk-inside (loop .inv) (test .loop-test .taken) (part-rest (loop .at) bytes) (read .ensures) (f .0 .0) (f .1))
 
 add-job : tie.Need-add-job Inv-loop μ-loop
 add-job c = search needs
@@ -69,32 +76,33 @@ loop-less c = search needs
 
 loop-again : tie.Need-loop-again Inv-loop μ-loop
 loop-again c =
-    let k = c .before .before .before .before .read in
-    let t = c .before .before .before .before .before .before in
-    let l = t .before .loop in
     let f = c .before .before .f .given in
-    let b = t .before .before .before .before .before .before .args .bytes .now in
-    walk-next (l .inv) (t .loop-test .taken) (part-rest (l .at) b) (k .ensures) (f .0 .0) (f .1)
+    let read = c .before .before .before .before in
+    let test = read .before .before in
+    let here = test .before in
+    walk-next (here .loop .inv) (test .loop-test .taken) (part-rest (here .loop .at) (start here .args .bytes .now)) (read .read .ensures)
+    (f .0 .0) (f .1)
 
 enum-known-r : tie.Need-enum-known-r Inv-loop μ-loop
 enum-known-r c = search needs
 
 same-length : tie.Need-same-length Inv-loop μ-loop
-same-length c = c .before .before .before .before .before .before .loop .inv .releases .same
+same-length c = looped (c .before .before .before) .loop .inv .releases .same
 
 same-length-2 : tie.Need-same-length-2 Inv-loop μ-loop
-same-length-2 c = c .before .before .before .before .before .before .loop .inv .deadlines .same
+same-length-2 c = looped (c .before .before .before) .loop .inv .deadlines .same
 
 same-length-3 : tie.Need-same-length-3 Inv-loop μ-loop
-same-length-3 c = c .before .before .before .before .before .before .loop .inv .volumes .same
+same-length-3 c = looped (c .before .before .before) .loop .inv .volumes .same
 
 returns : tie.Need-returns Inv-loop μ-loop
 returns c =
-    let k = c .before .before .before .read in
-    let t = c .before .before .before .before .before in
-    let l = t .before .loop in
-    let b = t .before .before .before .before .before .before .args .bytes .now in
-    walk-stop (l .inv) (t .loop-test .taken) (part-rest (l .at) b) (k .ensures) (c .before .r .given .0 .0) (c .before .r .given .1)
+    let r = c .before .r .given in
+    let read = c .before .before .before in
+    let test = read .before .before in
+    let here = test .before in
+    walk-stop (here .loop .inv) (test .loop-test .taken) (part-rest (here .loop .at) (start here .args .bytes .now)) (read .read .ensures)
+    (r .0 .0) (r .1)
 
 same-length-4 : tie.Need-same-length-4 Inv-loop μ-loop
 same-length-4 c = c .before .before .loop .inv .releases .same
@@ -119,8 +127,8 @@ same-length-9 c = c .before .before .loop .inv .volumes .same
 
 returns-3 : tie.Need-returns-3 Inv-loop μ-loop
 returns-3 c =
-    let l = c .before .before in
-    walk-end (l .loop .inv) (l .before .before .before .before .before .pre) (c .before .loop-test .left) (c .if1 .left)
+    let here = c .before .before in
+    walk-end (here .loop .inv) (start here .pre) (c .before .loop-test .left) (c .if1 .left)
 
 pub walk-spec : {M : Type 1} → statement M
 walk-spec =

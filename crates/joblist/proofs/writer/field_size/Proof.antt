@@ -1,4 +1,4 @@
--- `writer::field_size` meets its contract.
+-- `writer::field_size` meets its contract: a field with its absent value takes no byte, another two.
 use borrow.Author.Tests.{eq-eqb, ne-eqb}
 use Rattle.joblist.proofs.writer.field_size.Statement.{statement}
 use Rattle.joblist.proofs.writer.field_size.Tie as tie

@@ -8,10 +8,15 @@ use Rattle.joblist.proofs.writer.put_entries.Statement.{statement}
 use Rattle.joblist.proofs.writer.put_entries.Tie as tie
 
 abbrev Inv-loop : tie.InvT-loop
-Inv-loop h releases deadlines volumes out₀ at₀ job₀ out at job = (job ≤ length releases) × Stored h releases deadlines volumes out₀ job at out
+Inv-loop h releases deadlines volumes out₀ at₀ job₀ out at job =
+    (job ≤ length releases) × Stored h releases deadlines volumes out₀ job at out
 
 abbrev μ-loop : tie.MeasureT-loop
 μ-loop h releases deadlines volumes out₀ at₀ job₀ out at job = length releases - job
+
+-- the start, seen from the loop
+abbrev start : tie.At-loop Inv-loop μ-loop → tie.Start Inv-loop μ-loop
+start c = c .before .before .before .before .before
 
 loop-holds : tie.Need-loop-holds Inv-loop μ-loop
 loop-holds c = (search needs, record { same = refl; room = c .before .before .before .before .pre .room; stored = refl })
@@ -36,12 +41,12 @@ shared-slice-read-put-entry-3 c = search needs
 
 put-entry-requires : tie.Need-put-entry-requires Inv-loop μ-loop
 put-entry-requires c κs =
-    let a = c .before .before .before .before .before .before .before .before .before .before .args in
-    let rs = a .releases .now in
-    let ds = a .deadlines .now in
-    let ps = a .volumes .now in
-    let l = c .before .before .before .before .before .loop in
-    stored-room (a .h) rs ds ps (a .out .now) (c .before .before .before .before .before .before .before .before .before .before .pre .lists) (l .job) (l .at) (l .out) (c .before .before .before .before .loop-test .taken) (l .inv .1)
+    let test = c .before .before .before .before in
+    let here = test .before in
+    let a = start here .args in
+    stored-room (a .h) (a .releases .now) (a .deadlines .now) (a .volumes .now) (a .out .now) (start here .pre .lists) (here .loop .job)
+    (here .loop .at) (here .loop .out)
+    (test .loop-test .taken) (here .loop .inv .1)
 
 add-job : tie.Need-add-job Inv-loop μ-loop
 add-job c = search needs
@@ -51,24 +56,26 @@ loop-less c = search needs
 
 loop-again : tie.Need-loop-again Inv-loop μ-loop
 loop-again c =
-    let a = c .before .before .before .before .before .before .before .before .before .before .before .before .before .args in
-    let rs = a .releases .now in
-    let ds = a .deadlines .now in
-    let ps = a .volumes .now in
-    let l = c .before .before .before .before .before .before .before .before .loop in
-    (search needs, stored-next (a .h) rs ds ps (a .out .now) (c .before .before .before .before .before .before .before .before .before .before .before .before .before .pre .lists) (l .job) (l .at) _ (l .out) _ (c .before .before .before .before .before .before .before .loop-test .taken) (c .before .before .put-entry .ensures) (l .inv .1))
+    let put = c .before .before in
+    let test = put .before .before .before .before .before in
+    let here = test .before in
+    let a = start here .args in
+    let next =
+    stored-next (a .h) (a .releases .now) (a .deadlines .now) (a .volumes .now) (a .out .now) (start here .pre .lists) (here .loop .job)
+    (here .loop .at) _
+    (here .loop .out) _ (test .loop-test .taken) (put .put-entry .ensures) (here .loop .inv .1) in
+    (search needs, next)
 
 same-length : tie.Need-same-length Inv-loop μ-loop
 same-length c = c .before .loop .inv .1 .same
 
 returns : tie.Need-returns Inv-loop μ-loop
 returns c =
-    let a = c .before .before .before .before .before .before .args in
-    let rs = a .releases .now in
-    let ds = a .deadlines .now in
-    let ps = a .volumes .now in
-    let l = c .before .loop in
-    stored-end (a .h) rs ds ps (a .out .now) (c .before .before .before .before .before .before .pre .lists) (l .job) (l .at) (l .out) (c .loop-test .left) (l .inv .1)
+    let here = c .before in
+    let a = start here .args in
+    stored-end (a .h) (a .releases .now) (a .deadlines .now) (a .volumes .now) (a .out .now) (start here .pre .lists) (here .loop .job)
+    (here .loop .at) (here .loop .out)
+    (c .loop-test .left) (here .loop .inv .1)
 
 pub put-entries-spec : {M : Type 1} → statement M
 put-entries-spec =

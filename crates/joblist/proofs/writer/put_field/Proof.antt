@@ -1,10 +1,10 @@
--- `writer::put_field` meets its contract.
+-- `writer::put_field` meets its contract: no byte, or two.
 use borrow.Author.Needs.{needs}
 use Prim.Native.Nat.{_+_, _≤_}
 use native.Mathlib.Omega.{arith}
 use borrow.Author.Tests.{ne-eqb}
 use lib.ListN.{length, length-set}
-use Rattle.joblist.specs.Bytes.{spelled}
+use Rattle.sched.specs.TwoBytes.{twoBytes}
 use Rattle.joblist.proofs.Spelling.{put-no-field, put-field}
 use Rattle.joblist.proofs.writer.put_field.Statement.{statement}
 use Rattle.joblist.proofs.writer.put_field.Tie as tie
@@ -16,7 +16,10 @@ cast-out : tie.Need-cast-out
 cast-out c = search needs
 
 slice-write-out : tie.Need-slice-write-out
-slice-write-out c = let a = c .before .args in let q : a .at + length (spelled (a .x)) ≤ length (a .out .now) = rw (ne-eqb (a .x) (a .absent) (c .if1 .left)) at (c .before .pre) in omega arith
+slice-write-out c =
+    let a = c .before .args in
+    let q : a .at + length (twoBytes (a .x)) ≤ length (a .out .now) = rw (ne-eqb (a .x) (a .absent) (c .if1 .left)) at (c .before .pre) in
+    omega arith
 
 cast-out-2 : tie.Need-cast-out-2
 cast-out-2 c = search needs
@@ -27,7 +30,7 @@ add-out c = search needs
 slice-write-out-2 : tie.Need-slice-write-out-2
 slice-write-out-2 c =
     let a = c .before .args in
-    let q : a .at + length (spelled (a .x)) ≤ length (a .out .now) = rw (ne-eqb (a .x) (a .absent) (c .if1 .left)) at (c .before .pre) in
+    let q : a .at + length (twoBytes (a .x)) ≤ length (a .out .now) = rw (ne-eqb (a .x) (a .absent) (c .if1 .left)) at (c .before .pre) in
     simp length-set (omega arith)
 
 add-result : tie.Need-add-result

@@ -11,10 +11,25 @@ use Rattle.joblist.proofs.writer.size.Tie as tie
 
 abbrev Inv-loop : tie.InvT-loop
 Inv-loop h releases deadlines volumes n₀ job₀ n job =
-    (job ≤ length releases) × (n ≤ 5 + 7 * job) × (n + length (entriesBytes h (drop job releases) (drop job deadlines) (drop job volumes)) ≡ headerLength + length (entriesBytes h releases deadlines volumes))
+    (job ≤ length releases) × (n ≤ 5 + 7 * job) ×
+    (n + length (entriesBytes h (drop job releases) (drop job deadlines) (drop job volumes)) ≡
+    headerLength + length (entriesBytes h releases deadlines volumes))
 
 abbrev μ-loop : tie.MeasureT-loop
 μ-loop h releases deadlines volumes n₀ job₀ n job = length releases - job
+
+-- the start, seen from the loop
+abbrev start : tie.At-loop Inv-loop μ-loop → tie.Start Inv-loop μ-loop
+start c = c .before .before .before .before
+
+-- the entry that is added has at most 7 bytes
+small : (c : tie.After-entry-size Inv-loop μ-loop) → c .entry-size .result ≤ 7
+small c =
+    let here = c .before .before .before .before .before in
+    let a = start here .args in
+    let j = here .loop .job in
+    let most = entry-small (a .h) (getD (a .releases .now) j 0) (getD (a .deadlines .now) j 0) (getD (a .volumes .now) j 0) in
+    omega (arith, c .entry-size .ensures, most)
 
 loop-holds : tie.Need-loop-holds Inv-loop μ-loop
 loop-holds c = (search needs, search needs, refl)
@@ -42,12 +57,9 @@ entry-size-requires c κs = search needs
 
 add-n : tie.Need-add-n Inv-loop μ-loop
 add-n c =
-    let a = c .before .before .before .before .before .before .before .before .before .args in
-    let rs = a .releases .now in
-    let ds = a .deadlines .now in
-    let ps = a .volumes .now in
-    let l = c .before .before .before .before .before .loop in
-    omega (arith, l .inv .1, c .entry-size .ensures, entry-small (a .h) (getD rs (l .job) 0) (getD ds (l .job) 0) (getD ps (l .job) 0), c .before .before .before .before .before .before .before .before .before .pre .few)
+    let test = c .before .before .before .before in
+    let here = test .before in
+    omega (arith, small c, here .loop .inv .1, start here .pre .few)
 
 add-job : tie.Need-add-job Inv-loop μ-loop
 add-job c = search needs
@@ -57,21 +69,21 @@ loop-less c = search needs
 
 loop-again : tie.Need-loop-again Inv-loop μ-loop
 loop-again c =
-    let a = c .before .before .before .before .before .before .before .before .before .args in
-    let rs = a .releases .now in
-    let ds = a .deadlines .now in
-    let ps = a .volumes .now in
-    let l = c .before .before .before .before .before .loop in
-    (search needs, omega (arith, l .inv .1, c .entry-size .ensures, entry-small (a .h) (getD rs (l .job) 0) (getD ds (l .job) 0) (getD ps (l .job) 0)), length-turn (a .h) rs ds ps (c .before .before .before .before .before .before .before .before .before .pre) _ (l .n) _ (l .job) (c .before .before .before .before .loop-test .taken) (c .entry-size .ensures) (l .inv .2))
+    let test = c .before .before .before .before in
+    let here = test .before in
+    let a = start here .args in
+    let turn =
+    length-turn (a .h) (a .releases .now) (a .deadlines .now) (a .volumes .now) (start here .pre) _ (here .loop .n) _ (here .loop .job)
+    (test .loop-test .taken) (c .entry-size .ensures) (here .loop .inv .2) in
+    (search needs, omega (arith, small c, here .loop .inv .1), turn)
 
 returns : tie.Need-returns Inv-loop μ-loop
 returns c =
-    let a = c .before .before .before .before .before .args in
-    let rs = a .releases .now in
-    let ds = a .deadlines .now in
-    let ps = a .volumes .now in
-    let l = c .before .loop in
-    length-end (a .h) rs ds ps (c .before .before .before .before .before .pre) _ (l .n) (l .job) (c .loop-test .left) (l .inv .2)
+    let here = c .before in
+    let a = start here .args in
+    length-end (a .h) (a .releases .now) (a .deadlines .now) (a .volumes .now) (start here .pre) _ (here .loop .n) (here .loop .job)
+    (c .loop-test .left)
+    (here .loop .inv .2)
 
 pub size-spec : {M : Type 1} → statement M
 size-spec =

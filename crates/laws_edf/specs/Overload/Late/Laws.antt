@@ -13,7 +13,7 @@ use Rattle.sched.specs.Jobs.{Jobs, count, release, deadline, volume}
 use Rattle.sched.specs.Checks.{Passes}
 use Rattle.sched.specs.Overload.{volumeIf, volumeInside}
 use Rattle.laws_edf.specs.Units.{sum-more}
-use Rattle.laws_edf.specs.Overload.{Overfull}
+use Rattle.sched.specs.Overload.{Overfull}
 use Rattle.laws_edf.specs.Overload.Ends.{counts, counts-not}
 use Rattle.laws_edf.specs.Overload.Late.{servedIf, servedInside, Busy, Ran, Stint}
 

@@ -12,8 +12,7 @@ use Rattle.sched.specs.Bounded.{total}
 use Rattle.sched.specs.Jobs.{Jobs, count, release, deadline, volume}
 use Rattle.sched.specs.Checks.{Passes}
 use Rattle.sched.specs.Overload.{volumeIf, volumeInside, shownOverload}
-use Rattle.sched.specs.declared.Interval.{Interval}
-use Rattle.laws_edf.specs.Overload.{Overfull}
+use Rattle.sched.specs.Overload.{Overfull}
 use Rattle.laws_edf.specs.Overload.Laws.{shows, shows-one}
 use Rattle.laws_edf.specs.Overload.Ends.{volume-inside, volume-early, volume-late}
 use Rattle.laws_edf.specs.Overload.Order.{AtMost, InOrder}
@@ -100,14 +99,14 @@ known-most : (J : Jobs) → Passes J → (l : List ℕ) → AtMost suc (count J)
 known-most J p [] k = tt
 known-most J p (j ∷ js) (k, ks) = (omega (arith, p .good j k), known-most J p js ks)
 
-module _ (J : Jobs) (p : Passes J) (order : List ℕ) (by-release : InOrder (release J) (count J) order) where
+module _ (J : Jobs) (p : Passes J) (js : List ℕ) (by-release : InOrder (release J) (count J) js) where
   -- the greatest start for the end b
-  start-for : (b : ℕ) → b ≤ J .horizon → Starts J b (startFor J b order 0)
+  start-for : (b : ℕ) → b ≤ J .horizon → Starts J b (startFor J b js 0)
   unfolding volumeInside
   start-for b within =
-      start-right J p b within order 0 (J .horizon) (record {
+      start-right J p b within js 0 (J .horizon) (record {
         known = by-release .below;
-        most = known-most J p order (by-release .below);
+        most = known-most J p js (by-release .below);
         falling = by-release .falling;
         room = omega arith;
         later = λ a l o. omega (arith, o .span);
@@ -117,8 +116,8 @@ module _ (J : Jobs) (p : Passes J) (order : List ℕ) (by-release : InOrder (rel
   -- where no overloaded interval ends before b, but one ends there, the greatest start for b is shown
   pub least-end-shown :
       (a b : ℕ) → Overfull J a b → ((x y : ℕ) → y < b → Overfull J x y → ⊥) →
-      some (record { a = startOr 0 (startFor J b order 0); b = b }) ≡ shownOverload J
-  least-end-shown a b o n = go (startFor J b order 0) (start-for b (o .within))
+      some (record { a = startOr 0 (startFor J b js 0); b = b }) ≡ shownOverload J
+  least-end-shown a b o n = go (startFor J b js 0) (start-for b (o .within))
     where
       go : (s : Option ℕ) → Starts J b s → some (record { a = startOr 0 s; b = b }) ≡ shownOverload J
       go none h = absurd (h a o)

@@ -16,7 +16,7 @@ use Rattle.sched.specs.Bounded.Laws.{by-bool, true-not-false, or-true, or-left,
 use Rattle.sched.specs.Jobs.{Jobs, totalVolume}
 use Rattle.sched.specs.Slots.{awake, awakeBefore, touches, wakeSlot}
 use Rattle.sched.specs.Workable.{workable}
-use Rattle.sched.specs.Steps.{helps, wakes, nextWake, wokenIn}
+use Rattle.sched.specs.Extension.{helps, wakeable, nextWake, wokenIn}
 use Rattle.laws_extension.specs.Waking.Laws.{awake-stays, wakes-parts, next-turn}
 use Rattle.laws_extension.specs.Waking.Cursor.{NoneBefore, StaysIdle, cursorAfter, nextFrom, wokenFrom}
 
@@ -35,13 +35,13 @@ pub next-from : (J : Jobs) (S : List Bool) (t : ℕ) → t ≤ J .horizon → No
 unfolding nextFrom nextWake
 next-from J S t l n =
     sym (
-    ap (λ (m : ℕ). leastFrom m 0 (wakes J S)) (let e : J .horizon ≡ t + (J .horizon - t) = omega arith in e)
-    ∙ least-skip t (J .horizon - t) 0 (wakes J S) (λ i l m. n i (omega arith))
-    ∙ ap (λ (m : ℕ). leastFrom (J .horizon - t) m (wakes J S)) (zero-add t))
+    ap (λ (m : ℕ). leastFrom m 0 (wakeable J S)) (let e : J .horizon ≡ t + (J .horizon - t) = omega arith in e)
+    ∙ least-skip t (J .horizon - t) 0 (wakeable J S) (λ i l m. n i (omega arith))
+    ∙ ap (λ (m : ℕ). leastFrom (J .horizon - t) m (wakeable J S)) (zero-add t))
 
 none-before-next : (J : Jobs) (S : List Bool) (x : ℕ) → nextWake J S ≡ some x → NoneBefore J S x
 unfolding nextWake
-none-before-next J S x e i l = least-some (J .horizon) 0 (wakes J S) x e .first i (omega arith) l
+none-before-next J S x e i l = least-some (J .horizon) 0 (wakeable J S) x e .first i (omega arith) l
 
 -- neighbours of another slot than i leave it touching as it did
 touches-same : (S : List Bool) (x i : ℕ) → i < x → (suc i ≡ x → ⊥) → touches (wakeSlot S x) i ≡ touches S i
@@ -60,9 +60,9 @@ touches-stays S x i t = go i (or-true (awakeBefore S i) (awake S (suc i)) t)
 awake-before : (S : List Bool) (x i : ℕ) → awake (wakeSlot S x) i ≡ false → awake S i ≡ false
 awake-before S x i a = by-bool (awake S i) (λ b. true-not-false (awake (wakeSlot S x) i) (awake-stays S x i b) a) (λ b. b)
 
-idle : (J : Jobs) (S : List Bool) (i : ℕ) → awake S i ≡ false → touches S i ≡ true → wakes J S i ≡ false → helps J S i ≡ false
-unfolding wakes
-idle J S i a t w = by-bool (helps J S i) (λ h. true-not-false (wakes J S i) (rw (a, t, h)) w) (λ h. h)
+idle : (J : Jobs) (S : List Bool) (i : ℕ) → awake S i ≡ false → touches S i ≡ true → wakeable J S i ≡ false → helps J S i ≡ false
+unfolding wakeable
+idle J S i a t w = by-bool (helps J S i) (λ h. true-not-false (wakeable J S i) (rw (a, t, h)) w) (λ h. h)
 
 -- a slot before the new cursor is x itself, or no neighbour of x, or one that touched the set already
 before-cursor : (S : List Bool) (x i : ℕ) → i < cursorAfter S x → (i ≡ x) ⊎ ((i < x) × ((suc i ≡ x → ⊥) ⊎ (awake S i || touches S i ≡ true)))
@@ -91,7 +91,7 @@ cursor-moves S (suc y) = go (awake S y || touches S y)
 
 module _ (J : Jobs) (stays : StaysIdle J) where
   -- a slot before x that touched the set when x was woken is still of no use
-  stays-off : (S : List Bool) (x i : ℕ) → length S ≡ J .horizon → x < J .horizon → awake S x ≡ false → i < x → wakes J S i ≡ false → touches S i ≡ true → wakes J (wakeSlot S x) i ≡ true → ⊥
+  stays-off : (S : List Bool) (x i : ℕ) → length S ≡ J .horizon → x < J .horizon → awake S x ≡ false → i < x → wakeable J S i ≡ false → touches S i ≡ true → wakeable J (wakeSlot S x) i ≡ true → ⊥
   stays-off S x i e l a m w t u =
       let p = wakes-parts J (wakeSlot S x) i u in
       let b = awake-before S x i (p .0) in
@@ -99,9 +99,9 @@ module _ (J : Jobs) (stays : StaysIdle J) where
 
   -- after x was woken, none can be woken before the new cursor
   pub none-before-after : (S : List Bool) (x : ℕ) → length S ≡ J .horizon → x < J .horizon → awake S x ≡ false → NoneBefore J S x → NoneBefore J (wakeSlot S x) (cursorAfter S x)
-  none-before-after S x e l a n i m = by-bool (wakes J (wakeSlot S x) i) (λ u. absurd (go u (before-cursor S x i m))) (λ u. u)
+  none-before-after S x e l a n i m = by-bool (wakeable J (wakeSlot S x) i) (λ u. absurd (go u (before-cursor S x i m))) (λ u. u)
     where
-      go : wakes J (wakeSlot S x) i ≡ true → (i ≡ x) ⊎ ((i < x) × ((suc i ≡ x → ⊥) ⊎ (awake S i || touches S i ≡ true))) → ⊥
+      go : wakeable J (wakeSlot S x) i ≡ true → (i ≡ x) ⊎ ((i < x) × ((suc i ≡ x → ⊥) ⊎ (awake S i || touches S i ≡ true))) → ⊥
       go u (inl q) =
           true-not-false (awake (wakeSlot S x) i) (rw q (getD-set-same S x true false (omega arith))) (wakes-parts J (wakeSlot S x) i u .0)
       go u (inr (b, inl d)) =

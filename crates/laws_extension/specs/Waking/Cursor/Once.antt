@@ -5,10 +5,9 @@ use mathlib.Core.Bool.{Bool, true, false, not, _&&_, _||_}
 use mathlib.Core.List.{List, [], _∷_, _++_}
 use mathlib.Core.Logic.{_⊎_, inl, inr}
 use mathlib.Core.Option.{Option, none, some}
-use native.Mathlib.Nat.{zero-add}
 use native.Mathlib.Decide.{ℕ-discrete}
 use native.Mathlib.Omega.{arith}
-use borrow.Author.Tests.{eqb-true, not-true}
+use borrow.Author.Tests.{eqb-true, eqb-false, not-true}
 use lib.ListN.{length, length-set}
 use lib.Seq.{getD-set-same}
 use lib.Dec.{ltb, eqb}
@@ -16,19 +15,11 @@ use Rattle.sched.specs.Bounded.Laws.{true-not-false, and-true, or-false, least-
 use Rattle.sched.specs.Jobs.{Jobs, totalVolume}
 use Rattle.sched.specs.Slots.{awake, touches, wakeSlot, times}
 use Rattle.sched.specs.Workable.{workable}
-use Rattle.sched.specs.Steps.{wakes}
+use Rattle.sched.specs.Slots.Laws.{times-same, times-other, times-append}
+use Rattle.sched.specs.Extension.{wakeable}
 use Rattle.laws_extension.specs.Waking.Laws.{awake-stays}
 use Rattle.laws_extension.specs.Waking.Cursor.{cursorAfter, nextFrom, tries, triedFrom}
 use Rattle.laws_extension.specs.Waking.Cursor.Laws.{touches-stays}
-
-times-append : (i : ℕ) (l m : List ℕ) → times i (l ++ m) ≡ times i l + times i m
-unfolding times
-times-append i [] m = sym (zero-add (times i m))
-times-append i (x ∷ l) m = go (eqb x i) (times-append i l m)
-  where
-    go : (b : Bool) → times i (l ++ m) ≡ times i l + times i m → _≡_ {A = ℕ} (elim b [ true ↦ suc (times i (l ++ m)) | false ↦ times i (l ++ m) ]) (elim b [ true ↦ suc (times i l) | false ↦ times i l ] + times i m)
-    go true e = omega arith
-    go false e = omega arith
 
 -- a slot of the k from t on that sleeps and touches the set
 record Tried (S : List Bool) (k t i : ℕ) : Type 0 where
@@ -39,14 +30,6 @@ record Tried (S : List Bool) (k t i : ℕ) : Type 0 where
 
 wider : (S : List Bool) (k t i : ℕ) → Tried S k (suc t) i → Tried S (suc k) t i
 wider S k t i r = record { from = omega (arith, r .from); below = omega (arith, r .below); sleeps = r .sleeps; near = r .near }
-
-times-hit : (x i : ℕ) (l : List ℕ) → eqb x i ≡ true → times i (x ∷ l) ≡ suc (times i l)
-unfolding times
-times-hit x i l e = ap (λ (b : Bool). elim b [ true ↦ suc (times i l) | false ↦ times i l ]) e
-
-times-miss : (x i : ℕ) (l : List ℕ) → eqb x i ≡ false → times i (x ∷ l) ≡ times i l
-unfolding times
-times-miss x i l e = ap (λ (b : Bool). elim b [ true ↦ suc (times i l) | false ↦ times i l ]) e
 
 -- one search tries a slot not at all, or once
 tries-in : (S : List Bool) (k t i : ℕ) → (times i (tries S k t) ≡ 0) ⊎ ((times i (tries S k t) ≡ 1) × Tried S k t i)
@@ -64,7 +47,7 @@ tries-in S (suc k) t i = go (not (awake S t) && touches S t) refl (eqb t i) refl
         let q : t ≡ i = eqb-true t i f in
         let p = and-true (not (awake S t)) (touches S t) e in
         inr (
-          times-hit t i rest f ∙ ap suc z,
+          times-same i t rest (eqb-true t i f) ∙ ap suc z,
           record {
             from = omega arith;
             below = omega arith;
@@ -73,8 +56,8 @@ tries-in S (suc k) t i = go (not (awake S t) && touches S t) refl (eqb t i) refl
           },
         )
     go true e true f (inr (z, r)) = absurd (omega (arith, r .from, eqb-true t i f))
-    go true e false f (inl z) = inl (times-miss t i rest f ∙ z)
-    go true e false f (inr (z, r)) = inr (times-miss t i rest f ∙ z, wider S k t i r)
+    go true e false f (inl z) = inl (times-other i t rest (eqb-false t i f) ∙ z)
+    go true e false f (inr (z, r)) = inr (times-other i t rest (eqb-false t i f) ∙ z, wider S k t i r)
 
 -- slot i needs no try any more
 Done : List Bool → ℕ → ℕ → Type 0
@@ -116,7 +99,7 @@ tried-done S x t i l m r = go (ℕ-discrete i x)
 module _ (J : Jobs) where
   next-range : (S : List Bool) (t x : ℕ) → nextFrom J S t ≡ some x → (t ≤ x) × (x < J .horizon)
   unfolding nextFrom
-  next-range S t x e = let r = least-some (J .horizon - t) t (wakes J S) x e in omega (arith, r .from, r .below)
+  next-range S t x e = let r = least-some (J .horizon - t) t (wakeable J S) x e in omega (arith, r .from, r .below)
 
   -- in all turns a slot is tried at most once, and not at all where it is done
   tried-once-in : (n : ℕ) (S : List Bool) (t i : ℕ) → length S ≡ J .horizon → (times i (triedFrom n J S t) ≤ 1) × (Done S t i → times i (triedFrom n J S t) ≡ 0)

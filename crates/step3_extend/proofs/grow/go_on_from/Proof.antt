@@ -1,4 +1,4 @@
--- `grow::go_on_from` meets its contract, by its tests.
+-- `grow::go_on_from` meets its contract: its tests tell the slots before x apart as `cursorAfter` does.
 use Rattle.step3_extend.proofs.Reading.{byte-awake, byte-asleep, set-long, cursor-first, woken-awake, woken-second, woken-beside, woken-back}
 use Rattle.sched.specs.Slots.{awakeOf}
 use Prim.Native.Nat.{_-_}
@@ -33,7 +33,8 @@ returns-3 c =
     let start = c .before .before .before .before in
     let table = now (start .args .table) in
     let x = start .args .x in
-    woken-second (awakeOf table) x _ (set-long table x (start .pre)) (c .if3 .taken) (byte-asleep table (x - 1) (omega (arith, start .pre)) (c .before .if2 .left)) refl
+    woken-second (awakeOf table) x _ (set-long table x (start .pre)) (c .if3 .taken)
+    (byte-asleep table (x - 1) (omega (arith, start .pre)) (c .before .if2 .left)) refl
 
 sub-if4 : tie.Need-sub-if4
 sub-if4 c = search needs
@@ -46,10 +47,13 @@ add-result-2 c = search needs
 
 returns-4 : tie.Need-returns-4
 returns-4 c =
-    let start = c .before .before .before .before .before .before in
+    let second = c .before .before .before in
+    let first = second .before .before in
+    let start = first .before in
     let table = now (start .args .table) in
     let x = start .args .x in
-    woken-beside (awakeOf table) _ _ x (set-long table x (start .pre)) (c .before .before .before .before .before .if1 .left) (byte-asleep table (x - 1) (omega (arith, start .pre)) (c .before .before .before .if2 .left)) refl
+    woken-beside (awakeOf table) _ _ x (set-long table x (start .pre)) (first .if1 .left)
+    (byte-asleep table (x - 1) (omega (arith, start .pre)) (second .if2 .left)) refl
     (c .before .before .if3 .left) (byte-awake table (x - 2) (omega (arith, start .pre)) (c .if4 .taken)) refl
 
 sub-result : tie.Need-sub-result
@@ -57,10 +61,13 @@ sub-result c = search needs
 
 returns-5 : tie.Need-returns-5
 returns-5 c =
-    let start = c .before .before .before .before .before .before in
+    let second = c .before .before .before in
+    let first = second .before .before in
+    let start = first .before in
     let table = now (start .args .table) in
     let x = start .args .x in
-    woken-back (awakeOf table) _ _ x (set-long table x (start .pre)) (c .before .before .before .before .before .if1 .left) (byte-asleep table (x - 1) (omega (arith, start .pre)) (c .before .before .before .if2 .left)) refl
+    woken-back (awakeOf table) _ _ x (set-long table x (start .pre)) (first .if1 .left)
+    (byte-asleep table (x - 1) (omega (arith, start .pre)) (second .if2 .left)) refl
     (c .before .before .if3 .left) (byte-asleep table (x - 2) (omega (arith, start .pre)) (c .if4 .left)) refl
 
 pub go-on-from-spec : {M : Type 1} → statement M

@@ -22,8 +22,9 @@ shared-slice-read-if2 c = search needs
 
 returns-2 : tie.Need-returns-2
 returns-2 c =
-    let a = c .before .before .before .before .args in
-    near-before _ _ _ (c .before .before .if1 .left) (byte-awake (now (a .table)) (a .t - 1) (omega (arith, c .before .before .before .before .pre)) (c .if2 .taken)) refl
+    let start = c .before .before .before .before in
+    let a = start .args in
+    near-before _ _ _ (c .before .before .if1 .left) (byte-awake (now (a .table)) (a .t - 1) (omega (arith, start .pre)) (c .if2 .taken)) refl
 
 add-is-awake : tie.Need-add-is-awake
 add-is-awake c = search needs
@@ -33,8 +34,11 @@ is-awake-requires-2 c κs = search needs
 
 returns-3 : tie.Need-returns-3
 returns-3 c =
-    let a = c .before .before .before .before .before .args in
-    near-behind _ _ _ _ (c .before .before .before .if1 .left) (byte-asleep (now (a .table)) (a .t - 1) (omega (arith, c .before .before .before .before .before .pre)) (c .before .if2 .left)) refl (c .is-awake2 .ensures)
+    let first = c .before .before .before in
+    let start = first .before .before in
+    let a = start .args in
+    near-behind _ _ _ _ (first .if1 .left) (byte-asleep (now (a .table)) (a .t - 1) (omega (arith, start .pre)) (c .before .if2 .left)) refl
+    (c .is-awake2 .ensures)
 
 pub is-near-spec : {M : Type 1} → statement M
 is-near-spec =

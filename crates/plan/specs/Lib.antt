@@ -1,2 +1,0 @@
--- What the program prints of a table.
-pub mod Runs

@@ -1,0 +1,27 @@
+/* A second implementation of the planner's C call, with no code in common with the proved one.
+ *
+ * The reader, step 1 and step 4 follow document 01 word by word. Step 1 looks at all starts for every end. Step 2 tries every set of slots
+ * where there are at most ten, and else fills a table over all slots. Step 3 searches from slot 0 each time; the workable volume comes from
+ * augmenting paths between slots and jobs. That a passed-over slot does not help is not taken from any theorem about earlier turns: a
+ * witness shows it of the set as it then is, and the witness is checked whenever a slot changes hands (oracle.c). */
+#ifndef ORACLE_H
+#define ORACLE_H
+#include "places.h"
+#include <stddef.h>
+#include <stdint.h>
+
+/* What the answer of a call took, for the coverage. */
+struct notes {
+  struct spot spot;
+  int h, q, n;
+  int added, idle, runs;
+  int longest_path;   /* the most jobs that one slot concerned in step 3 */
+  int passed_over;    /* a sleeping slot that touches was passed over since it does not help */
+  int skeleton_tie;   /* the tie rule of step 2 decided */
+  int deadline_tie;   /* the lowest number decided in step 4 */
+  int several_starts; /* more than one start overloads the end that is shown */
+};
+
+uint32_t oracle_plan(const uint8_t *list, size_t list_len, uint8_t *table, size_t table_len, uint8_t *block, size_t block_len, struct notes *notes);
+
+#endif
