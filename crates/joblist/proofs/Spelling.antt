@@ -12,7 +12,9 @@ use lib.Seq.{drop-cons, sets, length-sets}
 use Rattle.sched.specs.Jobs.{Jobs, count}
 use Rattle.sched.specs.TwoBytes.{twoBytes}
 use Rattle.joblist.specs.Bytes.{headerLength, countByte, absentRelease, absentDeadline, absentVolume, stands}
-use Rattle.joblist.specs.Bytes.{bit, mapByte, bytesIf, entryBytes, entriesBytes, spelling}
+use Rattle.sched.specs.Bits.{bit}
+use Rattle.sched.specs.Bits.Laws.{bit-small}
+use Rattle.joblist.specs.Bytes.{mapByte, bytesIf, entryBytes, entriesBytes, spelling}
 use Rattle.joblist.specs.Parts.{EqualLists, PutAt}
 
 -- Lengths
@@ -21,9 +23,8 @@ pub field-small : (b : Bool) (x : ℕ) → length (bytesIf b x) ≤ 2
 field-small true x = omega arith
 field-small false x = omega arith
 
-pub bit-small : (b : Bool) (x : ℕ) → x ≡ bit b → x ≤ 1
-bit-small true x e = omega arith
-bit-small false x e = omega arith
+pub bit-fits : (b : Bool) (x : ℕ) → x ≡ bit b → x ≤ 1
+bit-fits b x e = rw e (bit-small b)
 
 pub entry-length : (h r d p : ℕ) →
     length (entryBytes h r d p) ≡

@@ -4,6 +4,7 @@ use mathlib.Core.Bool.{Bool, true, false, not}
 use mathlib.Core.List.{List, [], _∷_, _++_}
 use lib.ListN.{getD, drop}
 use lib.Dec.{eqb}
+use Rattle.sched.specs.Bits.{bit}
 use Rattle.sched.specs.Jobs.{Jobs, count}
 use Rattle.sched.specs.TwoBytes.{twoBytes, word}
 
@@ -58,10 +59,6 @@ abbrev pub hasVolume : ℕ → Bool
 hasVolume m = eqb (m / 4 % 2) 1
 
 -- the map byte in which just these bits stand
-abbrev pub bit : Bool → ℕ
-bit true = 1
-bit false = 0
-
 abbrev pub mapByte : Bool → Bool → Bool → ℕ
 mapByte r d p = bit r + 2 * bit d + 4 * bit p
 

@@ -7,7 +7,8 @@ ghost use lib.ListN.{length};
 ghost use lib.Seq.{sets};
 ghost use Rattle.sched.specs.Jobs.{jobsOf};
 ghost use Rattle.sched.specs.TwoBytes.{twoBytes};
-ghost use Rattle.joblist.specs.Bytes.{headerLength, countByte, absentRelease, absentDeadline, absentVolume, bit, mapByte, stands};
+ghost use Rattle.sched.specs.Bits.{bit};
+ghost use Rattle.joblist.specs.Bytes.{headerLength, countByte, absentRelease, absentDeadline, absentVolume, mapByte, stands};
 ghost use Rattle.joblist.specs.Bytes.{bytesIf, entryBytes, entriesBytes, spelling};
 ghost use Rattle.joblist.specs.Parts.{EqualLists, Puttable, PutAt};
 

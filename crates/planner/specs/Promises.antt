@@ -19,7 +19,7 @@ use Rattle.laws_rivals.specs.Rivals.{AgainstRivals, asOutcome, CountsWoken}
 pub mod Laws
 
 -- `lent` is the table as it was lent, `table` as it is handed back
-pub record Promise (J : Jobs) (lent : List ℕ) (answer : Outcome) (table : List ℕ) : Type 0 where
+pub record PlanPromise (J : Jobs) (lent : List ℕ) (answer : Outcome) (table : List ℕ) : Type 0 where
   pub same : answer ≡ (plan J lent) .answer
   pub number : outcomeNumber answer ≡ outcomeNumber ((plan J lent) .answer)
   pub values : outcomeValues answer ≡ outcomeValues ((plan J lent) .answer)

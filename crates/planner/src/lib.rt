@@ -1,6 +1,6 @@
 // From a list to a table: document 01's steps on lent lists.
 ghost use Rattle.sched.specs.Jobs.{jobsOf};
-ghost use Rattle.planner.specs.Promises.{Promise, Free, Stepped};
+ghost use Rattle.planner.specs.Promises.{PlanPromise, Free, Stepped};
 use front::Early;
 use sched::Outcome;
 use sched::PlanFigures;
@@ -39,7 +39,7 @@ pub fn plan(
     volumes: &[u16],
     table: &mut [u8],
 ) -> Outcome
-    ensures { λ r. ⌜ Promise (jobsOf h q (now (releases .entry)) (now (deadlines .entry)) (now (volumes .entry))) (now (table .entry)) r (now (table .exit)) ⌝ }
+    ensures { λ r. ⌜ PlanPromise (jobsOf h q (now (releases .entry)) (now (deadlines .entry)) (now (volumes .entry))) (now (table .entry)) r (now (table .exit)) ⌝ }
 {
     let n = releases.len();
     let end = h as usize;

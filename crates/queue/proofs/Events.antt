@@ -14,7 +14,8 @@ use lib.Pow.{pow-mono}
 use Rattle.laws_edf.specs.Search.{stateOf}
 use Rattle.laws_edf.specs.Orders.{jobAt}
 use Rattle.laws_edf.specs.Orders.Laws.{places-differ}
-use Rattle.queue.specs.Mask.{bit, mask}
+use Rattle.sched.specs.Bits.{bit}
+use Rattle.queue.specs.Mask.{mask}
 use Rattle.queue.specs.Mask.Laws.{mask-joins, mask-alike, mask-lt}
 use Rattle.queue.specs.Arrivals.{comesAt, goesAt, orBeyond, come, waits, Come, Gone}
 use Rattle.queue.specs.Arrivals.Laws.{come-fresh, come-itself, come-others}

@@ -12,7 +12,7 @@ use lib.Dec.{leb, ltb}
 use lib.Pow.{pow-mono}
 use lib.Count.{trailingZeros}
 use Rattle.sched.specs.Slots.{idle}
-use Rattle.queue.specs.Mask.{bit}
+use Rattle.sched.specs.Bits.{bit}
 use Rattle.queue.specs.Mask.Laws.{shifted}
 use Rattle.queue.specs.Ranks.{lowest, servedByte, servedLeft, servedBits, CanServe}
 use Rattle.queue.specs.Runs.{Serves}

@@ -1,11 +1,8 @@
 -- A set of numbers below 64 as the bits of one number.
 use Prim.Native.Nat.{ℕ, zero, suc, _+_, _*_}
-use mathlib.Core.Bool.{Bool, true, false}
+use mathlib.Core.Bool.{Bool}
+use Rattle.sched.specs.Bits.{bit}
 pub mod Laws
-
-abbrev pub bit : Bool → ℕ
-bit true = 1
-bit false = 0
 
 -- the k bits from number t on, the bit of t lowest
 unfoldable pub maskFrom : (ℕ → Bool) → ℕ → ℕ → ℕ

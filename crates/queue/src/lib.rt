@@ -5,7 +5,7 @@ ghost use mathlib.Core.Bool.{_&&_};
 ghost use Prim.Native.Nat.{_*_, _/_, _^_, _≤_, _<_};
 ghost use lib.ListN.{length};
 ghost use lib.Dec.{leb, ltb};
-ghost use Rattle.queue.specs.Mask.{bit};
+ghost use Rattle.sched.specs.Bits.{bit};
 ghost use Rattle.queue.specs.Ranks.{spansOf, CanServe};
 ghost use Rattle.queue.specs.Arrivals.{comesAt, goesAt, orBeyond};
 ghost use Rattle.queue.specs.Runs.{Reached, Known, Expirable, Expired, Arrivable, Arrived, Lesser, Lookable, Looked, Serves, SlotReady, SlotDone, Runnable, RunDone, Units};

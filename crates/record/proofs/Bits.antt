@@ -11,27 +11,24 @@ use lib.ListN.{length, getD, length-map, List·getD-eq-default}
 use lib.Dec.{eqb}
 use lib.Count.{ones}
 use lib.Pow.{pow-mono}
+use Rattle.sched.specs.Slots.Laws.{awake-of}
+use Rattle.sched.specs.Bits.{bit}
 use Rattle.sched.specs.Bounded.{total}
 use Rattle.sched.specs.Slots.{awake, awakeOf}
-use Rattle.record.specs.Record.{bitOf, bits, mapFrom}
+use Rattle.record.specs.Record.{bits, mapFrom}
 use Rattle.record.specs.Record.Laws.{bits-small, ones-few}
 
 -- one slot
 
-pub awake-at : (slots : List ℕ) (t : ℕ) → t < length slots → awake (awakeOf slots) t ≡ not (eqb (getD slots t 0) 255)
-awake-at [] t l = absurd (omega arith)
-awake-at (x ∷ slots) zero l = refl
-awake-at (x ∷ slots) (suc t) l = awake-at slots t (omega arith)
-
 module _ (slots : List ℕ) (t : ℕ) where
-  pub bit-awake : t < length slots → (getD slots t 0 ≡ 255 → ⊥) → 1 ≡ bitOf (awake (awakeOf slots) t)
-  bit-awake l n = sym (ap bitOf (awake-at slots t l) ∙ simp (ne-eqb (getD slots t 0) 255 n))
+  pub bit-awake : t < length slots → (getD slots t 0 ≡ 255 → ⊥) → 1 ≡ bit (awake (awakeOf slots) t)
+  bit-awake l n = sym (ap bit (awake-of slots t l) ∙ simp (ne-eqb (getD slots t 0) 255 n))
 
-  pub bit-asleep : t < length slots → getD slots t 0 ≡ 255 → 0 ≡ bitOf (awake (awakeOf slots) t)
-  bit-asleep l e = sym (ap bitOf (awake-at slots t l) ∙ simp (eq-eqb (getD slots t 0) 255 e))
+  pub bit-asleep : t < length slots → getD slots t 0 ≡ 255 → 0 ≡ bit (awake (awakeOf slots) t)
+  bit-asleep l e = sym (ap bit (awake-of slots t l) ∙ simp (eq-eqb (getD slots t 0) 255 e))
 
-  pub bit-behind : length slots ≤ t → 0 ≡ bitOf (awake (awakeOf slots) t)
-  bit-behind l = sym (ap bitOf (List·getD-eq-default (awakeOf slots) false (rw length-map l)))
+  pub bit-behind : length slots ≤ t → 0 ≡ bit (awake (awakeOf slots) t)
+  bit-behind l = sym (ap bit (List·getD-eq-default (awakeOf slots) false (rw length-map l)))
 
 -- eight slots: those from first + k on are packed
 
@@ -50,7 +47,7 @@ module _ (first : ℕ) (S : List Bool) (byte k : ℕ) (p : Packed first S byte k
       let b : bits (8 - k) (first + k) S < 2 ^ (8 - k) = bits-small (8 - k) (first + k) S in
       omega (arith, p .packed)
 
-  pub packed-turn : (b : ℕ) → 0 < k → b ≡ bitOf (awake S (first + (k - 1))) → Packed first S (2 * byte + b) (k - 1)
+  pub packed-turn : (b : ℕ) → 0 < k → b ≡ bit (awake S (first + (k - 1))) → Packed first S (2 * byte + b) (k - 1)
   unfolding bits
   packed-turn b l e =
       let i : 8 - (k - 1) ≡ suc (8 - k) = omega (arith, p .within) in

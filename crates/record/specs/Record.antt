@@ -6,6 +6,7 @@ use mathlib.Core.List.{List, [], _∷_, _++_}
 use lib.ListN.{length, take, drop}
 use lib.Dec.{eqb}
 use Rattle.sched.specs.Bounded.{keep}
+use Rattle.sched.specs.Bits.{bit}
 use Rattle.sched.specs.TwoBytes.{twoBytes}
 use Rattle.sched.specs.Slots.{awake, awakeOf, asleep}
 use Rattle.sched.specs.Energy.{awakeSlots}
@@ -17,15 +18,10 @@ use Rattle.record.specs.declared.RecordWritten.{RecordWritten}
 use Rattle.record.specs.declared.RecordWritten.the-variants.{Written, Refused}
 pub mod Laws
 
--- "1 for awake"
-abbrev pub bitOf : Bool → ℕ
-bitOf true = 1
-bitOf false = 0
-
--- the k slots from slot t on as a number, slot t in bit 0; beyond the last slot everything sleeps, so the rest is "padded with 0"
+-- the k slots from slot t on as a number, "1 for awake", slot t in bit 0; beyond the last slot everything sleeps, so the rest is "padded with 0"
 unfoldable pub bits : ℕ → ℕ → List Bool → ℕ
 bits zero t S = 0
-bits (suc k) t S = bitOf (awake S t) + 2 * bits k (suc t) S
+bits (suc k) t S = bit (awake S t) + 2 * bits k (suc t) S
 
 -- the k map bytes from byte m on, eight slots each
 unfoldable pub mapFrom : ℕ → ℕ → List Bool → List ℕ

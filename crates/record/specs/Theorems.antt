@@ -9,14 +9,16 @@ use borrow.Author.Tests.{eq-eqb, ne-eqb}
 use lib.ListN.{length, take, drop, length-map}
 use lib.Seq.{take-at, drop-at, length-take-le, ext-getD}
 use lib.Dec.{eqb}
+use Rattle.sched.specs.Bits.{bit}
+use Rattle.sched.specs.Bits.Laws.{bit-small}
 use Rattle.sched.specs.Bounded.Laws.{true-not-false}
 use Rattle.sched.specs.Slots.{awake, awakeOf}
-use Rattle.record.specs.Record.{bitOf, bits, mapFrom, mapLength, mapOf, slotBytes, recordOf, recordBytes}
-use Rattle.record.specs.Record.Laws.{bit-small, slot-awake, slot-asleep, length-map-of}
+use Rattle.record.specs.Record.{bits, mapFrom, mapLength, mapOf, slotBytes, recordOf, recordBytes}
+use Rattle.record.specs.Record.Laws.{slot-awake, slot-asleep, length-map-of}
 
 -- the map determines which slots are awake
 
-bit-same : (a b : Bool) → bitOf a ≡ bitOf b → a ≡ b
+bit-same : (a b : Bool) → bit a ≡ bit b → a ≡ b
 bit-same true true e = refl
 bit-same false false e = refl
 bit-same true false e = absurd (omega arith)

@@ -4,10 +4,11 @@ ghost use mathlib.Core.List.{map};
 ghost use Prim.Native.Nat.{_+_, _≤_};
 ghost use lib.ListN.{length};
 ghost use lib.Count.{ones};
+ghost use Rattle.sched.specs.Bits.{bit};
 ghost use Rattle.sched.specs.Bounded.{total};
 ghost use Rattle.sched.specs.Slots.{awake, awakeOf};
 ghost use Rattle.sched.specs.TwoBytes.{twoBytes};
-ghost use Rattle.record.specs.Record.{bitOf, bits, mapLength, mapOf, slotBytes, frontOf, recordOf, stored, Fits, WritesSlots, Writes};
+ghost use Rattle.record.specs.Record.{bits, mapLength, mapOf, slotBytes, frontOf, recordOf, stored, Fits, WritesSlots, Writes};
 use sched::ASLEEP;
 use sched::Checked;
 use sched::Refusal;
@@ -25,7 +26,7 @@ pub enum RecordWritten {
 
 // 1 for an awake slot; behind the last slot everything sleeps.
 fn bit(slots: &[u8], t: usize) -> u8
-    ensures { λ r. ⌜ r ≡ bitOf (awake (awakeOf (now (slots .entry))) t) ⌝ }
+    ensures { λ r. ⌜ r ≡ bit (awake (awakeOf (now (slots .entry))) t) ⌝ }
 {
     if t < slots.len() {
         if slots[t] == ASLEEP {

@@ -1,4 +1,4 @@
--- 01, "Words of the plan": when a table of H bytes is feasible (000, section 1.1: a feasible schedule), and demand 3's rival.
+-- 01, "Words of the plan": when a table of H bytes is feasible (000, section 1.1: a feasible schedule). A rival's schedule is any such table.
 use Prim.Native.Nat.{ℕ, _≤_, _<_}
 use mathlib.Core.Path.{_≡_}
 use mathlib.Core.List.{List}

@@ -1,5 +1,6 @@
 -- The words, checks and steps of 01 in formulas. Each file renders one concept; files named Laws hold what is proved of it.
 pub mod Bounded
+pub mod Bits
 pub mod Jobs
 pub mod TwoBytes
 pub mod Refusals

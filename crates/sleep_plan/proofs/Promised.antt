@@ -22,7 +22,7 @@ use Rattle.sleep_plan.specs.Entry.{Answer, bytesCheck, Entry, inBlock}
 use Rattle.joblist.specs.Bytes.{AreBytes, spelling}
 use Rattle.joblist.specs.Theorems.{spelling-read, spelling-list, read-list-passes, place-small}
 use Rattle.sleep_plan.specs.Entry.Laws.{entry-short, entry-answers, answer-refused, answer-planned}
-use Rattle.sleep_plan.specs.Promises.{asCall, Promise}
+use Rattle.sleep_plan.specs.Promises.{asCall, CallPromise}
 use Rattle.sleep_plan.proofs.Answers.{plan-fits, outcome-numbers, against}
 
 -- the bytes of a list that passes the list checks are read, to that list
@@ -33,7 +33,7 @@ spelled-is : (J : Jobs) (list : List ℕ) → J .start ≡ false → Passes J �
 spelled-is J list asleep p e = ap listOf e ∙ spelling-list J asleep p
 
 -- a short block
-pub promise-short : (list table block : List ℕ) → length block < blockLength → Promise list table block 17 table block
+pub promise-short : (list table block : List ℕ) → length block < blockLength → CallPromise list table block 17 table block
 promise-short list table block l =
     let e = sym (entry-short list table block l) in
     record {
@@ -46,7 +46,7 @@ promise-short list table block l =
     }
 
 -- a list that the reader refuses
-pub promise-refused : (list table block block′ : List ℕ) (n : ℕ) (r : Refusal) → blockLength ≤ length block → bytesCheck list ≡ Faulty r → Puts (number r) (place r ∷ []) block n block′ → Promise list table block n table block′
+pub promise-refused : (list table block block′ : List ℕ) (n : ℕ) (r : Refusal) → blockLength ≤ length block → bytesCheck list ≡ Faulty r → Puts (number r) (place r ∷ []) block n block′ → CallPromise list table block n table block′
 promise-refused list table block block′ n r l f puts =
     let a = answer-refused list table r f in
     let e = sym (entry-answers list table block l ∙ ap (λ (x : Answer). inBlock x block) a) in
@@ -64,7 +64,7 @@ promise-refused list table block block′ n r l f puts =
     }
 
 -- a list that was read; J is what the planner was handed
-pub promise-planned : (list table block table′ block′ : List ℕ) (n : ℕ) (o : Outcome) (J : Jobs) → AreBytes list → blockLength ≤ length block → bytesCheck list ≡ Passed → J ≡ listOf list → o ≡ plan J table .answer → table′ ≡ plan J table .table → (Passes J → J .horizon ≤ length table → AgainstRivals J (asOutcome o) (take (J .horizon) table′)) → PutsOutcome o block n block′ → Promise list table block n table′ block′
+pub promise-planned : (list table block table′ block′ : List ℕ) (n : ℕ) (o : Outcome) (J : Jobs) → AreBytes list → blockLength ≤ length block → bytesCheck list ≡ Passed → J ≡ listOf list → o ≡ plan J table .answer → table′ ≡ plan J table .table → (Passes J → J .horizon ≤ length table → AgainstRivals J (asOutcome o) (take (J .horizon) table′)) → PutsOutcome o block n block′ → CallPromise list table block n table′ block′
 promise-planned list table block table′ block′ n o J small l p same told kept rivals puts =
     let K = listOf list in
     let passes = read-list-passes list 64 64 64 small p in

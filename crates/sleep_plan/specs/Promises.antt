@@ -23,7 +23,7 @@ asCall returned block =
       reports = λ reported. (returned ≡ 0) × (numberIn block 0 ≡ reported);
     }
 
-pub record Promise (list lent-table lent-block : List ℕ) (r : ℕ) (table′ block′ : List ℕ) : Type 0 where
+pub record CallPromise (list lent-table lent-block : List ℕ) (r : ℕ) (table′ block′ : List ℕ) : Type 0 where
   pub returned : r ≡ entry list lent-table lent-block .number
   pub table : table′ ≡ entry list lent-table lent-block .table
   pub block : block′ ≡ entry list lent-table lent-block .block

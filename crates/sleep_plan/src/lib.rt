@@ -1,12 +1,12 @@
 // The planner for C: one call over list bytes, a table and an answer block. include/sleep_plan.h says the same for its callers.
-ghost use Rattle.sleep_plan.specs.Promises.{Promise};
+ghost use Rattle.sleep_plan.specs.Promises.{CallPromise};
 use joblist::ListRead;
 
 mod block; // block.rt: the answer block
 
 #[no_mangle]
 pub extern "C" fn sleep_plan(list: &[u8], table: &mut [u8], block: &mut [u8]) -> u32
-    ensures { λ r. ⌜ Promise (now (list .entry)) (now (table .entry)) (now (block .entry)) r (now (table .exit)) (now (block .exit)) ⌝ }
+    ensures { λ r. ⌜ CallPromise (now (list .entry)) (now (table .entry)) (now (block .entry)) r (now (table .exit)) (now (block .exit)) ⌝ }
 {
     if block.len() < 16 {
         return 17;

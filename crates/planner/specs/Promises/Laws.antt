@@ -12,13 +12,13 @@ use Rattle.sched.specs.declared.PlanFigures.{PlanFigures}
 use Rattle.sched.specs.declared.Outcome.{Outcome}
 use Rattle.sched.specs.declared.Outcome.the-variants.{Planned}
 use Rattle.laws_rivals.specs.Theorems.{demand-three, added-counts}
-use Rattle.planner.specs.Promises.{Promise, Stepped}
+use Rattle.planner.specs.Promises.{PlanPromise, Stepped}
 
 abbrev result : Outcome → List ℕ → Plan
 result answer table = record { answer = answer; table = table }
 
 -- the plan of 01 keeps the promise
-plan-promised : (J : Jobs) (lent : List ℕ) → Promise J lent ((plan J lent) .answer) ((plan J lent) .table)
+plan-promised : (J : Jobs) (lent : List ℕ) → PlanPromise J lent ((plan J lent) .answer) ((plan J lent) .table)
 plan-promised J lent = record {
   same = refl;
   number = refl;
@@ -28,17 +28,17 @@ plan-promised J lent = record {
   added = λ p m f e. added-counts J lent f p m e;
 }
 
-by-plan : (J : Jobs) (lent : List ℕ) (answer : Outcome) (table : List ℕ) → plan J lent ≡ result answer table → Promise J lent answer table
+by-plan : (J : Jobs) (lent : List ℕ) (answer : Outcome) (table : List ℕ) → plan J lent ≡ result answer table → PlanPromise J lent answer table
 by-plan J lent answer table e =
-    subst (λ (x : Plan). Promise J lent (x .answer) (x .table)) e (plan-promised J lent)
+    subst (λ (x : Plan). PlanPromise J lent (x .answer) (x .table)) e (plan-promised J lent)
 
 module _ (J : Jobs) (lent : List ℕ) where
-  pub answered-early : (answer : Outcome) → earlyAnswer J (length lent) ≡ some answer → Promise J lent answer lent
+  pub answered-early : (answer : Outcome) → earlyAnswer J (length lent) ≡ some answer → PlanPromise J lent answer lent
   unfolding plan
   answered-early answer e = by-plan J lent answer lent (plan-ended planned J lent answer e)
 
   pub steps-planned : (f : PlanFigures) (stepped table : List ℕ) → earlyAnswer J (length lent) ≡ none → Stepped J f stepped →
-      table ≡ stepped ++ drop (J .horizon) lent → Promise J lent (Planned f) table
+      table ≡ stepped ++ drop (J .horizon) lent → PlanPromise J lent (Planned f) table
   unfolding plan planned
   steps-planned f stepped table e s k =
       by-plan J lent (Planned f) table

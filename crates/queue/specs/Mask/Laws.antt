@@ -12,7 +12,9 @@ use lib.Dec.{leb}
 use lib.Pow.{shr-shr, pow-lt}
 use lib.Count.{trailingZeros, under}
 use Rattle.sched.specs.Bounded.{leastFrom}
-use Rattle.queue.specs.Mask.{bit, maskFrom, mask}
+use Rattle.sched.specs.Bits.{bit}
+use Rattle.sched.specs.Bits.Laws.{bit-small}
+use Rattle.queue.specs.Mask.{maskFrom, mask}
 
 -- a shifted one is the power of two
 pub shifted : (k : ℕ) → k < 64 → 1 * 2 ^ k % 2 ^ 64 ≡ 2 ^ k
@@ -23,10 +25,6 @@ half b m l = omega arith
 
 parity : (b m : ℕ) → b ≤ 1 → (b + 2 * m) % 2 ≡ b
 parity b m l = omega arith
-
-bit-most : (b : Bool) → bit b ≤ 1
-bit-most true = omega arith
-bit-most false = omega arith
 
 module _ (f : ℕ → Bool) where
   -- the least number found by counting zeros from below; k bits are set at most, and K looked at
@@ -64,7 +62,7 @@ module _ (f : ℕ → Bool) where
   pub mask-lt : (k t : ℕ) → maskFrom f k t < 2 ^ k
   unfolding maskFrom
   mask-lt zero t = omega arith
-  mask-lt (suc k) t = rw pow-suc (omega (arith, mask-lt k (suc t), bit-most (f t)))
+  mask-lt (suc k) t = rw pow-suc (omega (arith, mask-lt k (suc t), bit-small (f t)))
 
 from-alike : (f g : ℕ → Bool) (k t : ℕ) → ((i : ℕ) → t ≤ i → i < t + k → f i ≡ g i) → maskFrom f k t ≡ maskFrom g k t
 unfolding maskFrom
@@ -98,7 +96,7 @@ mask-drops f n g = from-alike (λ k. leb g k && f k) (λ k. leb (0 + g) k && f k
     go zero t (suc g) = sym (ap (λ (x : ℕ). x * 2 ^ suc g) (zero-div (2 ^ suc g)) ∙ zero-mul (2 ^ suc g))
     go (suc k) t (suc g) =
         let rest = from-alike (λ i. leb (t + suc g) i && f i) (λ i. leb (suc t + g) i && f i) k (suc t) (λ i l m. ap (λ (x : ℕ). leb x i && f i) (omega arith)) ∙ go k (suc t) g in
-        rw (lt-leb (t + suc g) t (omega arith)) (omega (arith, rest, halved (bit (f t)) (maskFrom f k (suc t)) g (bit-most (f t))))
+        rw (lt-leb (t + suc g) t (omega arith)) (omega (arith, rest, halved (bit (f t)) (maskFrom f k (suc t)) g (bit-small (f t))))
 
 -- among the numbers below n, g is f with x in it
 pub record Joins (n : ℕ) (f g : ℕ → Bool) (x : ℕ) : Type 0 where

@@ -3,7 +3,7 @@ use Prim.Native.Nat.{_+_, _-_}
 use native.Mathlib.Omega.{arith}
 use borrow.Author.Needs.{needs}
 use Rattle.sched.specs.Slots.{awake, awakeOf}
-use Rattle.record.specs.Record.Laws.{bit-small}
+use Rattle.sched.specs.Bits.Laws.{bit-small}
 use Rattle.record.proofs.Bits.{Packed, packed-start, packed-small, packed-turn, packed-end}
 use Rattle.record.proofs.map_byte.Statement.{statement}
 use Rattle.record.proofs.map_byte.Tie as tie

@@ -9,15 +9,13 @@ use borrow.Author.Tests.{eq-eqb, ne-eqb, eqb-true, eqb-false}
 use lib.ListN.{length, drop, length-append, length-map, drop-of-length-le}
 use lib.Dec.{eqb}
 use lib.Count.{ones, onesIn, ones-step, ones-le}
+use Rattle.sched.specs.Bits.{bit}
+use Rattle.sched.specs.Bits.Laws.{bit-small}
 use Rattle.sched.specs.Bounded.{total, keep}
 use Rattle.sched.specs.Bounded.Laws.{by-bool}
 use Rattle.sched.specs.Slots.{awake, awakeOf}
 use Rattle.sched.specs.Energy.{awakeSlots}
-use Rattle.record.specs.Record.{bitOf, bits, mapFrom, mapLength, mapOf, slotBytes, recordOf}
-
-pub bit-small : (b : Bool) → bitOf b ≤ 1
-bit-small true = omega arith
-bit-small false = omega arith
+use Rattle.record.specs.Record.{bits, mapFrom, mapLength, mapOf, slotBytes, recordOf}
 
 -- k slots are a number of k bits
 pub bits-small : (k t : ℕ) (S : List Bool) → bits k t S < 2 ^ k
@@ -26,7 +24,7 @@ bits-small zero t S = omega arith
 bits-small (suc k) t S = omega (arith, bit-small (awake S t), bits-small k (suc t) S, pow-suc 2 k)
 
 -- the slots from t on
-awake-split : (S : List Bool) (t : ℕ) → awakeSlots (drop t S) ≡ bitOf (awake S t) + awakeSlots (drop (suc t) S)
+awake-split : (S : List Bool) (t : ℕ) → awakeSlots (drop t S) ≡ bit (awake S t) + awakeSlots (drop (suc t) S)
 unfolding awakeSlots
 awake-split [] zero = refl
 awake-split [] (suc t) = refl
@@ -38,11 +36,11 @@ ones-zero : ones 0 ≡ 0
 unfolding ones onesIn
 ones-zero = refl
 
-ones-double : (b : Bool) (m : ℕ) → ones (bitOf b + 2 * m) ≡ bitOf b + ones m
+ones-double : (b : Bool) (m : ℕ) → ones (bit b + 2 * m) ≡ bit b + ones m
 ones-double b m =
-    let low : (bitOf b + 2 * m) % 2 ≡ bitOf b = omega (arith, bit-small b) in
-    let high : (bitOf b + 2 * m) / 2 ≡ m = omega (arith, bit-small b) in
-    ones-step (bitOf b + 2 * m) ∙ ap₂ (λ (x y : ℕ). x + ones y) low high
+    let low : (bit b + 2 * m) % 2 ≡ bit b = omega (arith, bit-small b) in
+    let high : (bit b + 2 * m) / 2 ≡ m = omega (arith, bit-small b) in
+    ones-step (bit b + 2 * m) ∙ ap₂ (λ (x y : ℕ). x + ones y) low high
 
 -- the ones of k slots as a number are the awake slots among them
 pub ones-of-bits : (k t : ℕ) (S : List Bool) → awakeSlots (drop t S) ≡ ones (bits k t S) + awakeSlots (drop (t + k) S)

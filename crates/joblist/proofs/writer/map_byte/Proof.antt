@@ -3,19 +3,19 @@ use borrow.Author.Needs.{needs}
 use Rattle.joblist.specs.Bytes.{absentRelease, absentDeadline, absentVolume, stands}
 use Prim.Native.Nat.{_≤_}
 use native.Mathlib.Omega.{arith}
-use Rattle.joblist.proofs.Spelling.{bit-small}
+use Rattle.joblist.proofs.Spelling.{bit-fits}
 use Rattle.joblist.proofs.writer.map_byte.Statement.{statement}
 use Rattle.joblist.proofs.writer.map_byte.Tie as tie
 
 -- each bit is 0 or 1
 first : (c : tie.After-bit) → c .bit .result ≤ 1
-first c = bit-small (stands absentRelease (c .before .args .r)) _ (c .bit .ensures)
+first c = bit-fits (stands absentRelease (c .before .args .r)) _ (c .bit .ensures)
 
 second : (c : tie.After-bit2) → c .bit2 .result ≤ 1
-second c = let a = c .before .before .args in bit-small (stands (absentDeadline (a .h)) (a .d)) _ (c .bit2 .ensures)
+second c = let a = c .before .before .args in bit-fits (stands (absentDeadline (a .h)) (a .d)) _ (c .bit2 .ensures)
 
 third : (c : tie.After-bit3) → c .bit3 .result ≤ 1
-third c = bit-small (stands absentVolume (c .before .before .before .args .p)) _ (c .bit3 .ensures)
+third c = bit-fits (stands absentVolume (c .before .before .before .args .p)) _ (c .bit3 .ensures)
 
 bit-requires : tie.Need-bit-requires
 bit-requires c κs = search needs
