@@ -36,7 +36,12 @@ array-read-named : tie.Need-array-read-named Inv-loop μ-loop
 array-read-named c = search needs
 
 add-named : tie.Need-add-named Inv-loop μ-loop
-add-named c = omega (arith, walk-fits _ _ _ _ _ _ (c .before .before .before .before .before .before .before .loop .inv) (c .if1 .taken) (sym (c .before .before .before .check-slot .ensures) ∙ c .before .enum-told .given .1), c .before .before .before .before .before .before .before .before .before .shared-slice-known3 .given (getD (c .before .before .before .before .before .before .before .before .before .before .before .before .args .table .now) (c .before .before .before .before .before .before .before .loop .t) 0))
+add-named c =
+    let slot = c .before .before .before in
+    let turn = slot .before .before .before .before in
+    let fits = walk-fits _ _ _ _ _ _ (turn .loop .inv) (c .if1 .taken) (sym (slot .check-slot .ensures) ∙ c .before .enum-told .given .1) in
+    let table = turn .before .before .before .before .before .args .table .now in
+    omega (arith, fits, turn .before .before .shared-slice-known3 .given (getD table (turn .loop .t) 0))
 
 array-write-named : tie.Need-array-write-named Inv-loop μ-loop
 array-write-named c = search needs
@@ -48,7 +53,11 @@ loop-less : tie.Need-loop-less Inv-loop μ-loop
 loop-less c = search needs
 
 loop-again : tie.Need-loop-again Inv-loop μ-loop
-loop-again c = walk-job _ _ _ _ _ _ (c .before .before .before .before .before .before .before .loop .inv) (c .before .before .before .before .before .before .before .before .before .before .before .before .pre) (c .before .before .before .before .before .before .loop-test .taken) (c .if1 .taken) (sym (c .before .before .before .check-slot .ensures) ∙ c .before .enum-told .given .1)
+loop-again c =
+    let slot = c .before .before .before in
+    let turn = slot .before .before .before .before in
+    walk-job _ _ _ _ _ _ (turn .loop .inv) (turn .before .before .before .before .before .pre) (slot .before .before .before .loop-test .taken)
+    (c .if1 .taken) (sym (slot .check-slot .ensures) ∙ c .before .enum-told .given .1)
 
 add-t-2 : tie.Need-add-t-2 Inv-loop μ-loop
 add-t-2 c = search needs
@@ -57,19 +66,29 @@ loop-less-2 : tie.Need-loop-less-2 Inv-loop μ-loop
 loop-less-2 c = search needs
 
 loop-again-2 : tie.Need-loop-again-2 Inv-loop μ-loop
-loop-again-2 c = walk-other _ _ _ _ _ _ (c .before .before .before .before .before .before .before .loop .inv) (c .before .before .before .before .before .before .loop-test .taken) (c .if1 .left) (sym (c .before .before .before .check-slot .ensures) ∙ c .before .enum-told .given .1)
+loop-again-2 c =
+    let slot = c .before .before .before in
+    let turn = slot .before .before .before .before in
+    walk-other _ _ _ _ _ _ (turn .loop .inv) (slot .before .before .before .loop-test .taken) (c .if1 .left)
+    (sym (slot .check-slot .ensures) ∙ c .before .enum-told .given .1)
 
 enum-known-r : tie.Need-enum-known-r Inv-loop μ-loop
 enum-known-r c = search needs
 
 returns : tie.Need-returns Inv-loop μ-loop
-returns c = walk-stop _ _ _ _ _ _ (c .before .before .before .before .before .before .before .loop .inv) _ (c .before .before .before .before .before .before .loop-test .taken) (sym (c .before .before .before .check-slot .ensures) ∙ c .before .r .given .1)
+returns c =
+    let slot = c .before .before .before in
+    let turn = slot .before .before .before .before in
+    walk-stop _ _ _ _ _ _ (turn .loop .inv) _ (slot .before .before .before .loop-test .taken)
+    (sym (slot .check-slot .ensures) ∙ c .before .r .given .1)
 
 check-named-requires : tie.Need-check-named-requires Inv-loop μ-loop
 check-named-requires c κs = search needs
 
 returns-2 : tie.Need-returns-2 Inv-loop μ-loop
-returns-2 c = c .check-named .ensures ∙ walk-end _ _ _ _ _ _ (c .before .before .before .loop .inv) (c .before .before .before .before .before .before .before .before .pre) (c .before .before .loop-test .left)
+returns-2 c =
+    let turn = c .before .before .before in
+    c .check-named .ensures ∙ walk-end _ _ _ _ _ _ (turn .loop .inv) (turn .before .before .before .before .before .pre) (c .before .before .loop-test .left)
 
 pub check-faults-spec : {M : Type 1} → statement M
 check-faults-spec =

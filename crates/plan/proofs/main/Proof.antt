@@ -7,6 +7,10 @@ use Rattle.plan.proofs.Laws.{fits-buffer}
 use Rattle.plan.proofs.main.Statement.{statement}
 use Rattle.plan.proofs.main.Tie as tie
 
+-- where the list has been read, from where it is known that it was not refused
+abbrev was-read : tie.After-known-told → tie.After-read
+was-read c = c .before .before .before .before .before .before
+
 slice-aggregate-read-full : tie.Need-slice-aggregate-read-full
 slice-aggregate-read-full c = search needs
 
@@ -50,22 +54,34 @@ buffer-requires : tie.Need-buffer-requires
 buffer-requires c κs = search needs
 
 array-share-prefix-releases : tie.Need-array-share-prefix-releases
-array-share-prefix-releases c = (read-list _ _ _ _ _ _ _ _ (c .before .before .before .before .before .before .before .before .read .ensures) _ (c .before .before .before .read2 .given .1)) .releases
+array-share-prefix-releases c =
+    let known = c .before .before in
+    (read-list _ _ _ _ _ _ _ _ (was-read known .read .ensures) _ (known .before .read2 .given .1)) .releases
 
 slice-aggregate-plan : tie.Need-slice-aggregate-plan
-slice-aggregate-plan c = sym (length-take-le _ _ ((read-list _ _ _ _ _ _ _ _ (c .before .before .before .before .before .before .before .before .before .read .ensures) _ (c .before .before .before .before .read2 .given .1)) .releases))
+slice-aggregate-plan c =
+    let known = c .before .before .before in
+    sym (length-take-le _ _ ((read-list _ _ _ _ _ _ _ _ (was-read known .read .ensures) _ (known .before .read2 .given .1)) .releases))
 
 array-share-prefix-deadlines : tie.Need-array-share-prefix-deadlines
-array-share-prefix-deadlines c = (read-list _ _ _ _ _ _ _ _ (c .before .before .before .before .before .before .before .before .before .read .ensures) _ (c .before .before .before .before .read2 .given .1)) .deadlines
+array-share-prefix-deadlines c =
+    let known = c .before .before .before in
+    (read-list _ _ _ _ _ _ _ _ (was-read known .read .ensures) _ (known .before .read2 .given .1)) .deadlines
 
 slice-aggregate-plan-2 : tie.Need-slice-aggregate-plan-2
-slice-aggregate-plan-2 c = sym (length-take-le _ _ ((read-list _ _ _ _ _ _ _ _ (c .before .before .before .before .before .before .before .before .before .before .read .ensures) _ (c .before .before .before .before .before .read2 .given .1)) .deadlines))
+slice-aggregate-plan-2 c =
+    let known = c .before .before .before .before in
+    sym (length-take-le _ _ ((read-list _ _ _ _ _ _ _ _ (was-read known .read .ensures) _ (known .before .read2 .given .1)) .deadlines))
 
 array-share-prefix-volumes : tie.Need-array-share-prefix-volumes
-array-share-prefix-volumes c = (read-list _ _ _ _ _ _ _ _ (c .before .before .before .before .before .before .before .before .before .before .read .ensures) _ (c .before .before .before .before .before .read2 .given .1)) .volumes
+array-share-prefix-volumes c =
+    let known = c .before .before .before .before in
+    (read-list _ _ _ _ _ _ _ _ (was-read known .read .ensures) _ (known .before .read2 .given .1)) .volumes
 
 slice-aggregate-plan-3 : tie.Need-slice-aggregate-plan-3
-slice-aggregate-plan-3 c = sym (length-take-le _ _ ((read-list _ _ _ _ _ _ _ _ (c .before .before .before .before .before .before .before .before .before .before .before .read .ensures) _ (c .before .before .before .before .before .before .read2 .given .1)) .volumes))
+slice-aggregate-plan-3 c =
+    let known = c .before .before .before .before .before in
+    sym (length-take-le _ _ ((read-list _ _ _ _ _ _ _ _ (was-read known .read .ensures) _ (known .before .read2 .given .1)) .volumes))
 
 slice-aggregate-plan-4 : tie.Need-slice-aggregate-plan-4
 slice-aggregate-plan-4 c = search needs
@@ -74,10 +90,13 @@ plan-requires : tie.Need-plan-requires
 plan-requires c κs = search needs
 
 array-share-prefix-table : tie.Need-array-share-prefix-table
-array-share-prefix-table c = fits-buffer _ _ _ ((read-list _ _ _ _ _ _ _ _ (c .before .before .before .before .before .before .before .before .before .before .before .before .before .before .read .ensures) _ (c .before .before .before .before .before .before .before .before .before .read2 .given .1)) .high) (c .before .before .before .before .before .before .buffer .ensures) (c .before .plan .kept .1 .1 .1 .1 .1 .0)
+array-share-prefix-table c =
+    let known = c .before .before .before .before .before .before .before .before in
+    let list = read-list _ _ _ _ _ _ _ _ (was-read known .read .ensures) _ (known .before .read2 .given .1) in
+    fits-buffer _ _ _ (list .high) (c .before .before .before .before .before .before .buffer .ensures) (c .before .plan .kept .1 .1 .1 .1 .1 .0)
 
 slice-aggregate-print-outcome : tie.Need-slice-aggregate-print-outcome
-slice-aggregate-print-outcome c = sym (length-take-le _ _ (fits-buffer _ _ _ ((read-list _ _ _ _ _ _ _ _ (c .before .before .before .before .before .before .before .before .before .before .before .before .before .before .before .read .ensures) _ (c .before .before .before .before .before .before .before .before .before .before .read2 .given .1)) .high) (c .before .before .before .before .before .before .before .buffer .ensures) (c .before .before .plan .kept .1 .1 .1 .1 .1 .0)))
+slice-aggregate-print-outcome c = sym (length-take-le _ _ (array-share-prefix-table (c .before)))
 
 print-outcome-requires : tie.Need-print-outcome-requires
 print-outcome-requires c κs = search needs

@@ -28,7 +28,12 @@ same-length : tie.Need-same-length
 same-length c = search needs
 
 returns : tie.Need-returns
-returns c = next-piece (twoBytes (c .before .before .before .before .before .before .before .before .before .before .args .h)) (mapOf (awakeOf (c .before .before .before .before .before .before .before .before .before .before .args .slots .now))) (c .before .before .before .before .before .before .before .before .before .before .args .out .now) (c .before .before .before .before .before .before .put-horizon .last .1 .0) (c .before .before .fill-map .last .1 .0) 2 refl (omega (arith, c .before .before .before .before .before .before .before .before .before .before .pre .1)) (c .before .before .before .before .before .before .put-horizon .ensures) (c .before .before .fill-map .ensures)
+returns c =
+    let filled = c .before .before in
+    let put = filled .before .before .before .before in
+    let s = put .before .before .before .before in
+    next-piece (twoBytes (s .args .h)) (mapOf (awakeOf (s .args .slots .now))) (s .args .out .now) (put .put-horizon .last .1 .0)
+    (filled .fill-map .last .1 .0) 2 refl (omega (arith, s .pre .1)) (put .put-horizon .ensures) (filled .fill-map .ensures)
 
 pub fill-front-spec : {M : Type 1} → statement M
 fill-front-spec =
