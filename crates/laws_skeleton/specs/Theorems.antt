@@ -131,5 +131,5 @@ runs-are-least J order p o asleep =
     ∙ start-runs-are-least J order p o
 
 -- there are no more runs than jobs, but for the one in front
-pub runs-at-most : (J : Jobs) (b : Bool) (order : List ℕ) → length order ≡ count J → length (runsFromStart J b order (values J order)) ≤ suc (count J)
-runs-at-most J b order n = omega (arith, start-runs-few J b order (values J order))
+pub runs-by-jobs : (J : Jobs) (b : Bool) (order : List ℕ) → length order ≡ count J → length (runsFromStart J b order (values J order)) ≤ suc (count J)
+runs-by-jobs J b order n = omega (arith, start-runs-few J b order (values J order))

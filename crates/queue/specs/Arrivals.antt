@@ -8,13 +8,13 @@ use lib.Dec.{leb, ltb, eqb}
 use Rattle.sched.specs.Bounded.{anyBelow}
 use Rattle.laws_edf.specs.Run.{State}
 use Rattle.laws_edf.specs.Search.{stateOf}
-use Rattle.laws_edf.specs.Orders.{jobAt, releaseAt}
+use Rattle.laws_edf.specs.Orders.{jobAt, rankRelease}
 use Rattle.queue.specs.Mask.{mask}
 pub mod Laws
 
 -- the release of the rank at place i of arrivals
 abbrev pub comesAt : List ℕ → List ℕ → List ℕ → ℕ → ℕ
-comesAt releases ranks arrivals i = releaseAt releases ranks (getD arrivals i 0)
+comesAt releases ranks arrivals i = rankRelease releases ranks (getD arrivals i 0)
 
 -- the deadline of rank k
 abbrev pub goesAt : List ℕ → List ℕ → ℕ → ℕ

@@ -1,7 +1,7 @@
 -- 01, "Plan record bytes": what the writer puts out for each horizon, table and lent output, and 01's number and values for each answer.
-use Prim.Native.Nat.{ℕ, zero, suc, _+_, _*_, _/_, _%_, _≤_}
+use Prim.Native.Nat.{ℕ, zero, suc, _+_, _*_, _/_, _≤_}
 use mathlib.Core.Path.{_≡_}
-use mathlib.Core.Bool.{Bool, true, false, not}
+use mathlib.Core.Bool.{Bool, not}
 use mathlib.Core.List.{List, [], _∷_, _++_}
 use lib.ListN.{length, take, drop}
 use lib.Dec.{eqb}
@@ -93,7 +93,7 @@ pub record Writes (h : ℕ) (table out : List ℕ) (answer : RecordWritten) (aft
 -- what the writer's parts need and promise for a table of just H bytes
 
 -- the output holds the record, whose slot bytes begin at `behind`
-pub record Fits (h : ℕ) (slots : List ℕ) (behind : ℕ) (out : List ℕ) : Type 0 where
+pub record RecordFits (h : ℕ) (slots : List ℕ) (behind : ℕ) (out : List ℕ) : Type 0 where
   pub few : length slots ≤ 4096
   pub start : behind ≡ 2 + mapLength (length slots)
   pub room : length (recordOf h slots) ≤ length out

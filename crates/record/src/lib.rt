@@ -8,7 +8,7 @@ ghost use Rattle.sched.specs.Bits.{bit};
 ghost use Rattle.sched.specs.Bounded.{total};
 ghost use Rattle.sched.specs.Slots.{awake, awakeOf};
 ghost use Rattle.sched.specs.TwoBytes.{twoBytes};
-ghost use Rattle.record.specs.Record.{bits, mapLength, mapOf, slotBytes, frontOf, recordOf, stored, Fits, WritesSlots, Writes};
+ghost use Rattle.record.specs.Record.{bits, mapLength, mapOf, slotBytes, frontOf, recordOf, stored, RecordFits, WritesSlots, Writes};
 use sched::ASLEEP;
 use sched::Checked;
 use sched::Refusal;
@@ -117,7 +117,7 @@ fn fill_front(h: u16, slots: &[u8], out: &mut [u8])
 
 // The horizon, the map, and directly behind it the slot bytes.
 fn fill_record(h: u16, slots: &[u8], behind: usize, out: &mut [u8])
-    requires { ⌜ Fits h (now slots) behind (now out) ⌝ }
+    requires { ⌜ RecordFits h (now slots) behind (now out) ⌝ }
     ensures { λ _. ⌜ now (out .exit) ≡ stored (recordOf h (now (slots .entry))) (now (out .entry)) ⌝ }
 {
     fill_front(h, slots, out);

@@ -23,18 +23,18 @@ use Rattle.sleep_plan.specs.Puts.{Puts, FiguresFit}
 use Rattle.sleep_plan.specs.Promises.{asCall}
 
 -- the values of an outcome fit their four bytes
-abbrev pub Fits : Outcome → Type 0
-Fits (Planned f) = Small (f .energy) (f .awake) (f .runs) (f .added)
-Fits (Overloaded i) = (i .a < tooLarge) × (i .b < tooLarge)
-Fits (Refused r) = place r < tooLarge
+abbrev pub ValuesFit : Outcome → Type 0
+ValuesFit (Planned f) = Small (f .energy) (f .awake) (f .runs) (f .added)
+ValuesFit (Overloaded i) = (i .a < tooLarge) × (i .b < tooLarge)
+ValuesFit (Refused r) = place r < tooLarge
 
-pub outcome-numbers : (o : Outcome) (rest : List ℕ) → Fits o → (i : ℕ) → i < 4 → numberIn (answerBytes (outcomeValues o) ++ rest) i ≡ getD (outcomeValues o) i 0
+pub outcome-numbers : (o : Outcome) (rest : List ℕ) → ValuesFit o → (i : ℕ) → i < 4 → numberIn (answerBytes (outcomeValues o) ++ rest) i ≡ getD (outcomeValues o) i 0
 outcome-numbers (Planned f) rest s = four-numbers (f .energy) (f .awake) (f .runs) (f .added) rest s
 outcome-numbers (Overloaded i) rest s = two-numbers (i .a) (i .b) rest (s .0) (s .1)
 outcome-numbers (Refused r) rest s = one-number (place r) rest s
 
 module _ (J : Jobs) (p : Passes J) where
-  long-fits : (o : Outcome) (table : List ℕ) → AgainstRivals J (asOutcome o) table → FiguresFit o → Fits o
+  long-fits : (o : Outcome) (table : List ℕ) → AgainstRivals J (asOutcome o) table → FiguresFit o → ValuesFit o
   long-fits (Planned f) table a s = s
   long-fits (Overloaded i) table a s =
       let over = a .sound .interval (i .a) (i .b) (refl, refl) in
@@ -42,7 +42,7 @@ module _ (J : Jobs) (p : Passes J) where
   long-fits (Refused r) table a s = absurd (a .sound .otherwise (λ x. x) .reported)
 
   pub plan-fits : (lent table′ : List ℕ) (o : Outcome) → o ≡ plan J lent .answer →
-      (J .horizon ≤ length lent → AgainstRivals J (asOutcome o) (take (J .horizon) table′)) → FiguresFit o → Fits o
+      (J .horizon ≤ length lent → AgainstRivals J (asOutcome o) (take (J .horizon) table′)) → FiguresFit o → ValuesFit o
   unfolding plan
   plan-fits lent table′ o e a s =
       by-bool (leb (J .horizon) (length lent))
@@ -50,7 +50,7 @@ module _ (J : Jobs) (p : Passes J) where
       (λ f.
       let short = early-short J (length lent) (passes-passed J p) (leb-false (J .horizon) (length lent) f) in
       let refused = plan-ended planned J lent (Refused (TooShort (J .horizon))) short in
-      subst Fits (sym (e ∙ ap (λ (x : Plan). x .answer) refused)) (omega (arith, p .high)))
+      subst ValuesFit (sym (e ∙ ap (λ (x : Plan). x .answer) refused)) (omega (arith, p .high)))
 
 -- 18 is the number of overload alone
 zero-not-18 : {A : Type 0} (n : ℕ) → n ≡ 0 → n ≡ 18 → A

@@ -10,19 +10,19 @@ use lib.ListN.{getD}
 use lib.Pow.{pow-mono}
 use Rattle.sched.specs.Jobs.{Jobs, count}
 use Rattle.laws_edf.specs.Search.{stateOf}
-use Rattle.laws_edf.specs.Orders.{Sorted, releaseAt}
+use Rattle.laws_edf.specs.Orders.{Sorted, rankRelease}
 use Rattle.laws_edf.specs.Orders.Laws.{places-differ}
 use Rattle.queue.specs.Arrivals.{comesAt, waits, Come}
 use Rattle.queue.specs.Runs.Reads.{reads}
 use Rattle.queue.specs.Mask.{mask}
 use Rattle.queue.specs.Mask.Laws.{mask-joins, mask-lt}
-use Rattle.step1_overload.specs.Pass.{never, Arrivable, Arrived, PassAt, Turned}
+use Rattle.step1_overload.specs.Pass.{never, Joinable, Joined, PassAt, Turned}
 use Rattle.step1_overload.proofs.Waiting.{comes-joins}
 
 module _
     {J : Jobs} {ranks arrivals left : List ℕ} {t bits next coming end : ℕ} (s : PassAt J ranks arrivals left t bits next coming end)
     (more : t < never) (now : coming ≤ t) where
-  arriving : Sorted (count J) (releaseAt (J .releases) ranks) arrivals
+  arriving : Sorted (count J) (rankRelease (J .releases) ranks) arrivals
   arriving = s .orders .by-release
 
   some-next : next < count J
@@ -38,7 +38,7 @@ module _
       let j = comes-joins ranks arrivals next (count J) (stateOf left) once (s .fresh next (omega arith) some-next) in
       omega (arith, s .came .bits-are, mask-joins (count J) _ _ (getD arrivals next 0) j (arriving .known next some-next))
 
-  pub can-arrive : Arrivable (J .releases) ranks arrivals bits next
+  pub can-arrive : Joinable (J .releases) ranks arrivals bits next
   can-arrive =
       let few = s .passes .few in
       let p : 2 ^ count J ≤ 2 ^ 64 = pow-mono {i = count J} {j = 64} few in
@@ -49,7 +49,7 @@ module _
         fits = omega (arith, joined, mask-lt (waits ranks arrivals (suc next) 0 (stateOf left)) (count J) 0);
       }
 
-  module _ (t′ bits′ next′ coming′ end′ : ℕ) (a : Arrived (J .releases) ranks arrivals t bits next end t′ bits′ next′ coming′ end′) where
+  module _ (t′ bits′ next′ coming′ end′ : ℕ) (a : Joined (J .releases) ranks arrivals t bits next end t′ bits′ next′ coming′ end′) where
     came : Come (J .releases) ranks arrivals left t bits′ (next + 1) 0
     came = record {
       most = omega (arith, some-next);

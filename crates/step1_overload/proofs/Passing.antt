@@ -17,7 +17,7 @@ use Rattle.queue.specs.Mask.Laws.{mask-none}
 use Rattle.queue.specs.Runs.{Units}
 use Rattle.orders.specs.Lists.{orders-of, volume-is}
 use Rattle.step1_overload.specs.Search.{Asked}
-use Rattle.step1_overload.specs.Pass.{never, Coming, PassAt, Passing, Turnable, rest, Turns, LeastEnd}
+use Rattle.step1_overload.specs.Pass.{never, NextComes, PassAt, Passing, Turnable, rest, TurnDone, LeastEnd}
 
 sum-most : (n : ℕ) (f : ℕ → ℕ) → ((j : ℕ) → f j < 65536) → sumBelow n f ≤ n * 65535
 unfolding sumBelow
@@ -27,7 +27,7 @@ sum-most (suc n) f h = omega (arith, sum-most n f h, h n)
 -- before slot 0 no rank has come
 pass-start :
     (J : Jobs) (ranks arrivals left : List ℕ) (coming : ℕ) → Passes J → Orders (J .releases) (J .deadlines) ranks arrivals →
-    Units (J .volumes) left → Coming (J .releases) ranks arrivals 0 coming → ((j : ℕ) → volume J j < 65536) →
+    Units (J .volumes) left → NextComes (J .releases) ranks arrivals 0 coming → ((j : ℕ) → volume J j < 65536) →
     PassAt J ranks arrivals left 0 0 0 coming 65535
 unfolding anyBelow
 pass-start J ranks arrivals left coming p o u c small = record {
@@ -52,12 +52,12 @@ pass-start J ranks arrivals left coming p o u c small = record {
 
 module _ {releases deadlines volumes ranks arrivals : List ℕ} (asked : Asked releases deadlines volumes ranks arrivals) where
   pub passes-start :
-      (left : List ℕ) (coming : ℕ) → Units volumes left → Coming releases ranks arrivals 0 coming → ((j : ℕ) → getD volumes j 0 < 65536) →
+      (left : List ℕ) (coming : ℕ) → Units volumes left → NextComes releases ranks arrivals 0 coming → ((j : ℕ) → getD volumes j 0 < 65536) →
       Passing releases deadlines volumes ranks arrivals left 0 0 0 coming 65535
   passes-start left coming u c small J p =
       pass-start J ranks arrivals left coming (p .passes) (orders-of p (asked .orders))
       (subst (λ (l : List ℕ). Units l left) (sym (p .volumes-are)) u)
-      (subst (λ (l : List ℕ). Coming l ranks arrivals 0 coming) (sym (p .releases-are)) c) (λ j. omega (arith, volume-is p j, small j))
+      (subst (λ (l : List ℕ). NextComes l ranks arrivals 0 coming) (sym (p .releases-are)) c) (λ j. omega (arith, volume-is p j, small j))
 
   module _
       {left : List ℕ} {t bits next coming end : ℕ} (pass : Passing releases deadlines volumes ranks arrivals left t bits next coming end) where
@@ -68,7 +68,7 @@ module _ {releases deadlines volumes ranks arrivals : List ℕ} (asked : Asked r
 
     module _
         {left′ : List ℕ} {t′ bits′ next′ coming′ end′ : ℕ}
-        (turns : Turns releases deadlines ranks arrivals left t bits next coming end left′ t′ bits′ next′ coming′ end′) where
+        (turns : TurnDone releases deadlines ranks arrivals left t bits next coming end left′ t′ bits′ next′ coming′ end′) where
       pub passes-on : Passing releases deadlines volumes ranks arrivals left′ t′ bits′ next′ coming′ end′
       passes-on J p = turns J (p .releases-are) (p .deadlines-are) (pass J p) .pass
 

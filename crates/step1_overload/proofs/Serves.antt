@@ -12,7 +12,7 @@ use lib.Count.{trailingZeros}
 use Rattle.sched.specs.Bounded.{sumBelow}
 use Rattle.sched.specs.Jobs.{Jobs, count, release, deadline}
 use Rattle.laws_edf.specs.Search.{stateOf}
-use Rattle.laws_edf.specs.Orders.{Sorted, jobAt, releaseAt}
+use Rattle.laws_edf.specs.Orders.{Sorted, jobAt, rankRelease}
 use Rattle.laws_edf.specs.Orders.Laws.{places-differ}
 use Rattle.laws_edf.specs.Overload.Late.{Ran, Stint}
 use Rattle.laws_edf.specs.Units.{sum-more}
@@ -30,7 +30,7 @@ module _
   few : count J ≤ 64
   few = s .passes .few
 
-  arriving : Sorted (count J) (releaseAt (J .releases) ranks) arrivals
+  arriving : Sorted (count J) (rankRelease (J .releases) ranks) arrivals
   arriving = s .orders .by-release
 
   sorted : Sorted (count J) (deadline J) ranks

@@ -11,13 +11,13 @@ use Rattle.sched.specs.Jobs.{Jobs, count, release}
 use Rattle.laws_edf.specs.Search.{stateOf}
 use Rattle.laws_edf.specs.Orders.{Orders, jobAt}
 use Rattle.queue.specs.Arrivals.{comesAt, waits}
-use Rattle.step1_overload.specs.Pass.{Coming, PassAt}
+use Rattle.step1_overload.specs.Pass.{NextComes, PassAt}
 use Rattle.step1_overload.proofs.Waiting.{waits-if}
 
 module _ {releases deadlines ranks arrivals : List ℕ} (o : Orders releases deadlines ranks arrivals) where
   -- the next release is not behind a later one
   coming-first :
-      (next coming i : ℕ) → Coming releases ranks arrivals next coming → next ≤ i → i < length releases →
+      (next coming i : ℕ) → NextComes releases ranks arrivals next coming → next ≤ i → i < length releases →
       coming ≤ comesAt releases ranks arrivals i
   coming-first next coming i c l m = go (decLt next i)
     where

@@ -24,23 +24,23 @@ pub record Reachable (releases ranks arrivals : List ℕ) : Type 0 where
   pub each : (i : ℕ) → i < length releases → Reached releases ranks arrivals i
 
 -- the rank at place i of arrivals comes at slot x, or never
-pub record Coming (releases ranks arrivals : List ℕ) (i x : ℕ) : Type 0 where
+pub record NextComes (releases ranks arrivals : List ℕ) (i x : ℕ) : Type 0 where
   pub here : i < length releases → x ≡ comesAt releases ranks arrivals i
   pub gone : length releases ≤ i → x ≡ never
 
 -- the next rank can join the bits
-pub record Arrivable (releases ranks arrivals : List ℕ) (bits next : ℕ) : Type 0 where
+pub record Joinable (releases ranks arrivals : List ℕ) (bits next : ℕ) : Type 0 where
   pub reachable : Reachable releases ranks arrivals
   pub more : next < length releases
   pub rank : getD arrivals next 0 < 64
   pub fits : bits + 2 ^ getD arrivals next 0 < 2 ^ 64
 
 -- it has joined them
-pub record Arrived (releases ranks arrivals : List ℕ) (t bits next end t′ bits′ next′ coming′ end′ : ℕ) : Type 0 where
+pub record Joined (releases ranks arrivals : List ℕ) (t bits next end t′ bits′ next′ coming′ end′ : ℕ) : Type 0 where
   pub t-is : t′ ≡ t
   pub bits-are : bits′ ≡ bits + 2 ^ getD arrivals next 0
   pub next-is : next′ ≡ next + 1
-  pub coming-is : Coming releases ranks arrivals next′ coming′
+  pub coming-is : NextComes releases ranks arrivals next′ coming′
   pub end-is : end′ ≡ end
 
 -- the end after a job with the deadline d is finished at t
@@ -55,7 +55,7 @@ pub record PassAt (J : Jobs) (ranks arrivals left : List ℕ) (t bits next comin
   pub orders : Orders (J .releases) (J .deadlines) ranks arrivals
   pub long : length left ≡ 64
   pub came : Come (J .releases) ranks arrivals left t bits next 0
-  pub coming-is : Coming (J .releases) ranks arrivals next coming
+  pub coming-is : NextComes (J .releases) ranks arrivals next coming
   pub ahead : t ≤ coming
   pub fresh : (i : ℕ) → next ≤ i → i < count J → 0 < getD left (jobAt ranks (getD arrivals i 0)) 0
   pub ran : Ran J (stateOf left) t end
@@ -86,8 +86,8 @@ pub record Turned (J : Jobs) (ranks arrivals left : List ℕ) (t next coming : �
   pub less : rest (count J) left′ t′ next′ coming′ < rest (count J) left t next coming
 
 -- the same for every list with these lists
-abbrev pub Turns : List ℕ → List ℕ → List ℕ → List ℕ → List ℕ → ℕ → ℕ → ℕ → ℕ → ℕ → List ℕ → ℕ → ℕ → ℕ → ℕ → ℕ → Type 0
-Turns releases deadlines ranks arrivals left t bits next coming end left′ t′ bits′ next′ coming′ end′ =
+abbrev pub TurnDone : List ℕ → List ℕ → List ℕ → List ℕ → List ℕ → ℕ → ℕ → ℕ → ℕ → ℕ → List ℕ → ℕ → ℕ → ℕ → ℕ → ℕ → Type 0
+TurnDone releases deadlines ranks arrivals left t bits next coming end left′ t′ bits′ next′ coming′ end′ =
     (J : Jobs) → J .releases ≡ releases → J .deadlines ≡ deadlines → PassAt J ranks arrivals left t bits next coming end
     → Turned J ranks arrivals left t next coming left′ t′ bits′ next′ coming′ end′
 

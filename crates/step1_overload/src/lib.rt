@@ -5,7 +5,7 @@ use sched::Interval;
 ghost use Rattle.sched.specs.Jobs.{Jobs};
 ghost use Rattle.orders.specs.Lists.{ListsOf};
 ghost use Rattle.step1_overload.specs.Search.{Asked, Answers, StartFor};
-ghost use Rattle.step1_overload.specs.Pass.{Reachable, Coming, Arrivable, Arrived, EndAfter, Turnable, Turns, LeastEnd};
+ghost use Rattle.step1_overload.specs.Pass.{Reachable, NextComes, Joinable, Joined, EndAfter, Turnable, TurnDone, LeastEnd};
 
 // A slot behind every other.
 const NEVER: u32 = 16777216;
@@ -31,7 +31,7 @@ struct Pass {
 // When the rank at place i of `arrivals` is released.
 fn comes_at(i: usize, releases: &[u16], ranks: &[u8], arrivals: &[u8]) -> u32
     requires { ⌜ Reachable (now releases) (now ranks) (now arrivals) ⌝ }
-    ensures { λ r. ⌜ Coming (now (releases .entry)) (now (ranks .entry)) (now (arrivals .entry)) i r ⌝ }
+    ensures { λ r. ⌜ NextComes (now (releases .entry)) (now (ranks .entry)) (now (arrivals .entry)) i r ⌝ }
 {
     if i < releases.len() {
         let rank = arrivals[i] as usize;
@@ -43,8 +43,8 @@ fn comes_at(i: usize, releases: &[u16], ranks: &[u8], arrivals: &[u8]) -> u32
 
 // The next rank comes.
 fn arrive(last: Pass, releases: &[u16], ranks: &[u8], arrivals: &[u8]) -> Pass
-    requires { ⌜ Arrivable (now releases) (now ranks) (now arrivals) (last .waiting) (last .next) ⌝ }
-    ensures { λ r. ⌜ Arrived (now (releases .entry)) (now (ranks .entry)) (now (arrivals .entry)) (last .t) (last .waiting) (last .next) (last .end) (r .t) (r .waiting) (r .next) (r .coming) (r .end) ⌝ }
+    requires { ⌜ Joinable (now releases) (now ranks) (now arrivals) (last .waiting) (last .next) ⌝ }
+    ensures { λ r. ⌜ Joined (now (releases .entry)) (now (ranks .entry)) (now (arrivals .entry)) (last .t) (last .waiting) (last .next) (last .end) (r .t) (r .waiting) (r .next) (r .coming) (r .end) ⌝ }
 {
     let at = last.next;
     let rank = arrivals[at] as u32;
@@ -81,7 +81,7 @@ fn turn(
     left: &mut [u16],
 ) -> Pass
     requires { ⌜ Turnable (now releases) (now deadlines) (now ranks) (now arrivals) (now left) (last .t) (last .waiting) (last .next) (last .coming) (last .end) ⌝ }
-    ensures { λ r. ⌜ Turns (now (releases .entry)) (now (deadlines .entry)) (now (ranks .entry)) (now (arrivals .entry)) (now (left .entry)) (last .t) (last .waiting) (last .next) (last .coming) (last .end) (now (left .exit)) (r .t) (r .waiting) (r .next) (r .coming) (r .end) ⌝ }
+    ensures { λ r. ⌜ TurnDone (now (releases .entry)) (now (deadlines .entry)) (now (ranks .entry)) (now (arrivals .entry)) (now (left .entry)) (last .t) (last .waiting) (last .next) (last .coming) (last .end) (now (left .exit)) (r .t) (r .waiting) (r .next) (r .coming) (r .end) ⌝ }
 {
     if last.coming <= last.t {
         return arrive(last, releases, ranks, arrivals);

@@ -21,7 +21,7 @@ use Rattle.laws_skeleton.specs.Runs.Clauses.{sleep-none, sleep-wakes, sleep-ski
 use Rattle.laws_skeleton.specs.Runs.Choice.{run-end-from}
 use Rattle.laws_skeleton.specs.Runs.Values.{run-end-inside}
 use Rattle.laws_skeleton.specs.Runs.Bounds.{most, sleep-cost-small, value-small}
-use Rattle.step2_skeleton.specs.Places.{chosen, largest, Small, SleepFrom, Rests, EndFrom, Windows, Untils, Priced, Priceable, Step, Fresh}
+use Rattle.step2_skeleton.specs.Places.{oneOf, largest, AtMostFrom, SleepFrom, Rests, EndFrom, Windows, Untils, Priced, Priceable, Step, Fresh}
 use Rattle.orders.specs.Placing.{map-at}
 use Rattle.step2_skeleton.proofs.Sleeping.{starts-many, start-at}
 
@@ -96,7 +96,7 @@ module _ (q : ℕ) (starts ends numbers rests untils : List ℕ) (i asleep end p
       ∙ ap (λ (v : ℕ). v ∷ values J (drop (suc i) ranks)) (sym value)
 
   module _ (rests′ : List ℕ) (numbers-many : length numbers ≡ length starts) (untils-many : length untils ≡ length starts)
-      (waked : (k : ℕ) → k < length starts → getD rests′ k 0 ≡ chosen (ltb (getD starts k 0) (getD starts i 0)) (q + (paid - getD ends i 0))
+      (waked : (k : ℕ) → k < length starts → getD rests′ k 0 ≡ oneOf (ltb (getD starts k 0) (getD starts i 0)) (q + (paid - getD ends i 0))
       (getD rests k 0)) where
     more-asleep : Rests J starts rests′ (drop i ranks) (values J (drop i ranks)) 0
     more-asleep k f m =
@@ -110,10 +110,10 @@ module _ (q : ℕ) (starts ends numbers rests untils : List ℕ) (i asleep end p
         ∙ by-bool (ltb a (getD starts i 0))
         (λ t. sleep-wakes J (suc a) (getD ranks i 0) v (drop (suc i) ranks) vs
         (omega (arith, ltb-true a (getD starts i 0) t, start-at J ranks starts (w .firsts) i l)) ∙ ap (λ (n : ℕ). n + v) wake
-        ∙ ap (λ (c : Bool). chosen c (q + v) (getD rests k 0)) (sym t))
+        ∙ ap (λ (c : Bool). oneOf c (q + v) (getD rests k 0)) (sym t))
         (λ t. sleep-skips J (suc a) (getD ranks i 0) v (drop (suc i) ranks) vs
         (omega (arith, ltb-false a (getD starts i 0) t, start-at J ranks starts (w .firsts) i l)) ∙ sym (d .asleep k f m)
-        ∙ ap (λ (c : Bool). chosen c (q + v) (getD rests k 0)) (sym t)))
+        ∙ ap (λ (c : Bool). oneOf c (q + v) (getD rests k 0)) (sym t)))
 
     more-untils : Untils J ranks (set untils i end) i
     more-untils k f m = go (ℕ-discrete k i)
@@ -163,7 +163,7 @@ module _ {q : ℕ} {starts ends numbers rests untils : List ℕ} {i : ℕ} (p : 
             (length (drop (suc i) (p .ranks))) fewer,
       )
 
-  pub numbers-small : Small largest (i + 1) numbers
+  pub numbers-small : AtMostFrom largest (i + 1) numbers
   numbers-small k f m =
       let at : suc i + (k - suc i) ≡ k = omega arith in
       let here : getD (drop (suc i) numbers) (k - suc i) 0 ≡ getD numbers k 0 = getD-drop (suc i) numbers (k - suc i) 0
@@ -177,10 +177,10 @@ module _ {q : ℕ} {starts ends numbers rests untils : List ℕ} {i : ℕ} (p : 
             (length (drop (suc i) (p .ranks))) fewer,
       )
 
-  pub rests-small : Small largest (i + 1) rests
+  pub rests-small : AtMostFrom largest (i + 1) rests
   rests-small k f m = omega (arith, p .done .asleep k (omega arith) (omega (arith, p .rests-many)), asleep-small (suc (getD starts k 0)))
 
-  pub starts-small : Small 4096 (i + 1) starts
+  pub starts-small : AtMostFrom 4096 (i + 1) starts
   starts-small k f m =
       omega (
         arith,
@@ -226,7 +226,7 @@ module _ {q : ℕ} {starts ends numbers rests untils : List ℕ} {i : ℕ} (p : 
             end-at starts ends (p .J) (p .ranks) (p .windows) i (p .within),
           )
 
-      pub priced-step : (rests′ : List ℕ) → ((k : ℕ) → k < length starts → getD rests′ k 0 ≡ chosen (ltb (getD starts k 0) (getD starts i 0))
+      pub priced-step : (rests′ : List ℕ) → ((k : ℕ) → k < length starts → getD rests′ k 0 ≡ oneOf (ltb (getD starts k 0) (getD starts i 0))
           (q + (paid - getD ends i 0)) (getD rests k 0))
           → Step q starts ends numbers rests untils (set numbers i (paid - getD ends i 0)) rests′ (set untils i end) i
       priced-step rests′ waked J ranks w wake d =

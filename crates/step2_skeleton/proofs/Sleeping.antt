@@ -16,7 +16,7 @@ use Rattle.laws_skeleton.specs.Windows.{windowStart}
 use Rattle.laws_skeleton.specs.Runs.{sleepCost, throughCost, takes, runEnd}
 use Rattle.laws_skeleton.specs.Runs.Clauses.{sleep-none, sleep-wakes, sleep-skips, run-end-none, run-end-takes, run-end-keeps}
 use Rattle.orders.specs.Placing.{map-at}
-use Rattle.step2_skeleton.specs.Places.{chosen, wins, SleepFrom, Rests, EndFrom}
+use Rattle.step2_skeleton.specs.Places.{oneOf, wins, SleepFrom, Rests, EndFrom}
 
 -- by place and by job
 module _ (J : Jobs) (ranks starts : List ℕ) (e : starts ≡ map (windowStart J) ranks) where
@@ -68,13 +68,13 @@ module _ (q : ℕ) (starts numbers : List ℕ) (from s k : ℕ) (same : length n
 
 module _ (low c paid end through : ℕ) where
   abbrev pub Picks : ℕ → ℕ → Type 0
-  Picks e t = (e ≡ chosen (wins low c paid end through) c end) × (t ≡ chosen (wins low c paid end through) paid through)
+  Picks e t = (e ≡ oneOf (wins low c paid end through) c end) × (t ≡ oneOf (wins low c paid end through) paid through)
 
   keeps : wins low c paid end through ≡ false → Picks end through
-  keeps e = (ap (λ (b : Bool). chosen b c end) (sym e), ap (λ (b : Bool). chosen b paid through) (sym e))
+  keeps e = (ap (λ (b : Bool). oneOf b c end) (sym e), ap (λ (b : Bool). oneOf b paid through) (sym e))
 
   gives-way : wins low c paid end through ≡ true → Picks c paid
-  gives-way e = (ap (λ (b : Bool). chosen b c end) (sym e), ap (λ (b : Bool). chosen b paid through) (sym e))
+  gives-way e = (ap (λ (b : Bool). oneOf b c end) (sym e), ap (λ (b : Bool). oneOf b paid through) (sym e))
 
   pub too-early : c < low → Picks end through
   too-early l = keeps (simp (lt-leb low c l))
@@ -93,7 +93,7 @@ module _ (low c paid end through : ℕ) where
 
 module _ (J : Jobs) (js vs : List ℕ) (low end through c paid end′ through′ k : ℕ) (ks : List ℕ)
     (at : c ≡ suc (windowStart J k)) (here : paid ≡ throughCost J js vs c) (best : through ≡ throughCost J js vs end)
-    (ends : end′ ≡ chosen (wins low c paid end through) c end) (throughs : through′ ≡ chosen (wins low c paid end through) paid through) where
+    (ends : end′ ≡ oneOf (wins low c paid end through) c end) (throughs : through′ ≡ oneOf (wins low c paid end through) paid through) where
   test : wins low c paid end through ≡ takes J js vs low end k
   test =
       ap (λ (n : ℕ). leb low c && (ltb n through || eqb n through && ltb c end)) here
@@ -107,8 +107,8 @@ module _ (J : Jobs) (js vs : List ℕ) (low end through c paid end′ through′
       won : wins low c paid end through ≡ true → (runEnd J js vs low end (k ∷ ks) ≡ runEnd J js vs low end′ ks) ×
           (through′ ≡ throughCost J js vs end′)
       won t =
-          let e : end′ ≡ c = ends ∙ ap (λ (b : Bool). chosen b c end) t in
-          let p : through′ ≡ paid = throughs ∙ ap (λ (b : Bool). chosen b paid through) t in (
+          let e : end′ ≡ c = ends ∙ ap (λ (b : Bool). oneOf b c end) t in
+          let p : through′ ≡ paid = throughs ∙ ap (λ (b : Bool). oneOf b paid through) t in (
             run-end-takes J js vs low end k ks (sym test ∙ t) ∙ ap (λ (n : ℕ). runEnd J js vs low n ks) (sym (e ∙ at)),
             p ∙ here ∙ ap
                 (throughCost J js vs) (sym e),
@@ -117,8 +117,8 @@ module _ (J : Jobs) (js vs : List ℕ) (low end through c paid end′ through′
       lost : wins low c paid end through ≡ false
           → (runEnd J js vs low end (k ∷ ks) ≡ runEnd J js vs low end′ ks) × (through′ ≡ throughCost J js vs end′)
       lost t =
-          let e : end′ ≡ end = ends ∙ ap (λ (b : Bool). chosen b c end) t in
-          let p : through′ ≡ through = throughs ∙ ap (λ (b : Bool). chosen b paid through) t in (
+          let e : end′ ≡ end = ends ∙ ap (λ (b : Bool). oneOf b c end) t in
+          let p : through′ ≡ through = throughs ∙ ap (λ (b : Bool). oneOf b paid through) t in (
             run-end-keeps J js vs low end k ks (sym test ∙ t) ∙ ap (λ (n : ℕ). runEnd J js vs low n ks) (sym e),
             p ∙ best ∙ ap (throughCost J js vs)
                 (sym e),
@@ -134,8 +134,8 @@ Ended starts rests from low through₀ end through k =
 
 module _ (starts rests : List ℕ) (from low through₀ : ℕ) where
   pub ended-turn : (end through k end′ through′ : ℕ) → from ≤ k → k < length starts
-      → end′ ≡ chosen (wins low (getD starts k 0 + 1) (getD starts k 0 + 1 + getD rests k 0) end through) (getD starts k 0 + 1) end
-      → through′ ≡ chosen (wins low (getD starts k 0 + 1) (getD starts k 0 + 1 + getD rests k 0) end through)
+      → end′ ≡ oneOf (wins low (getD starts k 0 + 1) (getD starts k 0 + 1 + getD rests k 0) end through) (getD starts k 0 + 1) end
+      → through′ ≡ oneOf (wins low (getD starts k 0 + 1) (getD starts k 0 + 1 + getD rests k 0) end through)
       (getD starts k 0 + 1 + getD rests k 0) through
       → Ended starts rests from low through₀ end through k → Ended starts rests from low through₀ end′ through′ (k + 1)
   ended-turn end through k end′ through′ f l a b m J ranks vs e r t =
@@ -167,11 +167,11 @@ pub record Waked (first cost : ℕ) (starts rests₀ rests : List ℕ) (k : ℕ)
   pub within : k ≤ length starts
   pub same : length rests ≡ length starts
   pub kept : length rests ≡ length rests₀
-  pub done : (j : ℕ) → j < k → getD rests j 0 ≡ chosen (ltb (getD starts j 0) first) cost (getD rests₀ j 0)
+  pub done : (j : ℕ) → j < k → getD rests j 0 ≡ oneOf (ltb (getD starts j 0) first) cost (getD rests₀ j 0)
   pub left : (j : ℕ) → k ≤ j → getD rests j 0 ≡ getD rests₀ j 0
 
 module _ (first cost : ℕ) (starts rests₀ : List ℕ) where
-  pub waked-turn : (rests : List ℕ) (k v : ℕ) → k < length starts → v ≡ chosen (ltb (getD starts k 0) first) cost (getD rests k 0)
+  pub waked-turn : (rests : List ℕ) (k v : ℕ) → k < length starts → v ≡ oneOf (ltb (getD starts k 0) first) cost (getD rests k 0)
       → Waked first cost starts rests₀ rests k → Waked first cost starts rests₀ (set rests k v) (k + 1)
   waked-turn rests k v l e m = record {
     within = omega arith;
@@ -181,13 +181,13 @@ module _ (first cost : ℕ) (starts rests₀ : List ℕ) where
     left = λ j b. getD-set-other rests k j v 0 (λ q. omega arith) ∙ m .left j (omega arith);
   }
     where
-      go : (j : ℕ) → j < k + 1 → Dec (j ≡ k) → getD (set rests k v) j 0 ≡ chosen (ltb (getD starts j 0) first) cost (getD rests₀ j 0)
+      go : (j : ℕ) → j < k + 1 → Dec (j ≡ k) → getD (set rests k v) j 0 ≡ oneOf (ltb (getD starts j 0) first) cost (getD rests₀ j 0)
       go j b (yes q) =
           ap (λ (i : ℕ). getD (set rests k v) i 0) q ∙ getD-set-same rests k v 0 (omega (arith, m .same)) ∙ e
-          ∙ ap (λ (n : ℕ). chosen (ltb (getD starts k 0) first) cost n) (m .left k (omega arith))
-          ∙ ap (λ (i : ℕ). chosen (ltb (getD starts i 0) first) cost (getD rests₀ i 0)) (sym q)
+          ∙ ap (λ (n : ℕ). oneOf (ltb (getD starts k 0) first) cost n) (m .left k (omega arith))
+          ∙ ap (λ (i : ℕ). oneOf (ltb (getD starts i 0) first) cost (getD rests₀ i 0)) (sym q)
       go j b (no n) = getD-set-other rests k j v 0 n ∙ m .done j (omega arith)
 
   pub waked-end : (rests : List ℕ) (k : ℕ) → length starts ≤ k → Waked first cost starts rests₀ rests k
-      → (j : ℕ) → j < length starts → getD rests j 0 ≡ chosen (ltb (getD starts j 0) first) cost (getD rests₀ j 0)
+      → (j : ℕ) → j < length starts → getD rests j 0 ≡ oneOf (ltb (getD starts j 0) first) cost (getD rests₀ j 0)
   waked-end rests k l m j b = m .done j (omega arith)

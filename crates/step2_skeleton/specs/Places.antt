@@ -14,9 +14,9 @@ use Rattle.laws_skeleton.specs.Windows.{windowStart, windowEnd}
 use Rattle.laws_skeleton.specs.Order.{Order}
 use Rattle.laws_skeleton.specs.Runs.{sleepCost, throughCost, runEnd, endAfter, values, runsOf, spread}
 
-abbrev pub chosen : Bool → ℕ → ℕ → ℕ
-chosen true a b = a
-chosen false a b = b
+abbrev pub oneOf : Bool → ℕ → ℕ → ℕ
+oneOf true a b = a
+oneOf false a b = b
 
 -- a run that ends before c and costs `paid` against one that ends before `end` and costs `through`; none may end before `low`
 abbrev pub wins : ℕ → ℕ → ℕ → ℕ → ℕ → Bool
@@ -27,8 +27,8 @@ abbrev pub largest : ℕ
 largest = 65535 + 64 * (4096 + 65535)
 
 -- no number from place `from` on is above `most`
-abbrev pub Small : ℕ → ℕ → List ℕ → Type 0
-Small most from l = (k : ℕ) → from ≤ k → k < length l → getD l k 0 ≤ most
+abbrev pub AtMostFrom : ℕ → ℕ → List ℕ → Type 0
+AtMostFrom most from l = (k : ℕ) → from ≤ k → k < length l → getD l k 0 ≤ most
 
 -- the numbers and lists are those of J, which passes the checks and starts asleep; its ranks are an order that serves
 pub record Markable (J : Jobs) (h q : ℕ) (releases deadlines ranks table : List ℕ) : Type 0 where

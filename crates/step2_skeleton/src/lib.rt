@@ -8,7 +8,7 @@ ghost use lib.Dec.{ltb};
 ghost use Rattle.sched.specs.Jobs.{Jobs};
 ghost use Rattle.sched.specs.Slots.{awakeOf};
 ghost use Rattle.sched.specs.Skeleton.{leastSkeleton};
-ghost use Rattle.step2_skeleton.specs.Places.{chosen, wins, largest, Small, Placeable, SleepFrom, EndFrom, Windows, Priceable, Step, Fresh, Untils, Drawable, Drawn, MarkableWindows, MarkedWindows, Markable};
+ghost use Rattle.step2_skeleton.specs.Places.{oneOf, wins, largest, AtMostFrom, Placeable, SleepFrom, EndFrom, Windows, Priceable, Step, Fresh, Untils, Drawable, Drawn, MarkableWindows, MarkedWindows, Markable};
 use sched::ASLEEP;
 use sched::IDLE;
 
@@ -49,7 +49,7 @@ fn by_place(
 
 // What is paid from slot s on when sleep begins there: the first window, from place `from` on, that starts at s or later is waked for.
 fn sleep_cost(q: u16, starts: &[u16], values: &[u32], from: usize, s: u16) -> u32
-    requires { ⌜ (length (now values) ≡ length (now starts)) × Small largest from (now values) ⌝ }
+    requires { ⌜ (length (now values) ≡ length (now starts)) × AtMostFrom largest from (now values) ⌝ }
     ensures { λ r. ⌜ SleepFrom q (now (starts .entry)) (now (values .entry)) from s r ⌝ }
 {
     let mut k = from;
@@ -70,7 +70,7 @@ struct Ending {
 
 // The cheaper of two ends, the earlier where they cost the same; a run cannot end before `low`.
 fn better(best: Ending, low: u16, end: u16, through: u32) -> Ending
-    ensures { λ r. ⌜ (r .end ≡ chosen (wins low end through (best .end) (best .through)) end (best .end)) × (r .through ≡ chosen (wins low end through (best .end) (best .through)) through (best .through)) ⌝ }
+    ensures { λ r. ⌜ (r .end ≡ oneOf (wins low end through (best .end) (best .through)) end (best .end)) × (r .through ≡ oneOf (wins low end through (best .end) (best .through)) through (best .through)) ⌝ }
 {
     if end < low {
         return best;
@@ -88,7 +88,7 @@ fn better(best: Ending, low: u16, end: u16, through: u32) -> Ending
 
 // The best end of a run that may end before `low`, where `through` is paid, or behind the start of a window from place `from` on.
 fn best_end(starts: &[u16], rests: &[u32], from: usize, low: u16, through: u32) -> Ending
-    requires { ⌜ (length (now rests) ≡ length (now starts)) × Small largest from (now rests) × Small 4096 from (now starts) ⌝ }
+    requires { ⌜ (length (now rests) ≡ length (now starts)) × AtMostFrom largest from (now rests) × AtMostFrom 4096 from (now starts) ⌝ }
     ensures { λ r. ⌜ EndFrom (now (starts .entry)) (now (rests .entry)) from low through (r .end) (r .through) ⌝ }
 {
     let mut best = Ending { end: low, through };
@@ -102,7 +102,7 @@ fn best_end(starts: &[u16], rests: &[u32], from: usize, low: u16, through: u32) 
 }
 
 fn rest_of(start: u16, first: u16, cost: u32, rest: u32) -> u32
-    ensures { λ r. ⌜ r ≡ chosen (ltb start first) cost rest ⌝ }
+    ensures { λ r. ⌜ r ≡ oneOf (ltb start first) cost rest ⌝ }
 {
     if start < first { cost } else { rest }
 }
@@ -110,7 +110,7 @@ fn rest_of(start: u16, first: u16, cost: u32, rest: u32) -> u32
 // Who falls asleep before slot `first`, behind the start of a window, wakes for the window that starts there.
 fn wake_for(first: u16, cost: u32, starts: &[u16], rests: &mut [u32])
     requires { ⌜ length (now rests) ≡ length (now starts) ⌝ }
-    ensures { λ r. ⌜ ((k : ℕ) → k < length (now (starts .entry)) → getD (now (rests .exit)) k 0 ≡ chosen (ltb (getD (now (starts .entry)) k 0) first) cost (getD (now (rests .entry)) k 0)) ⌝ }
+    ensures { λ r. ⌜ ((k : ℕ) → k < length (now (starts .entry)) → getD (now (rests .exit)) k 0 ≡ oneOf (ltb (getD (now (starts .entry)) k 0) first) cost (getD (now (rests .entry)) k 0)) ⌝ }
 {
     let mut k = 0;
     while k < starts.len() {

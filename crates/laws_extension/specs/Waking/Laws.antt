@@ -23,13 +23,13 @@ use Rattle.sched.specs.Extension.{helps, wakeable, nextWake, wokenIn, woken, wa
 use Rattle.laws_extension.specs.Waking.{Turn, Turns, AlwaysOne}
 
 -- one awake slot more
-pub wake-awake : (S : List Bool) (x : ℕ) → x < length S → awake S x ≡ false → awakeSlots (wakeSlot S x) ≡ suc (awakeSlots S)
+pub wake-adds-one : (S : List Bool) (x : ℕ) → x < length S → awake S x ≡ false → awakeSlots (wakeSlot S x) ≡ suc (awakeSlots S)
 unfolding awakeSlots
-wake-awake [] x l a = absurd (not-suc-le-zero l)
-wake-awake (false ∷ S) zero l a = refl
-wake-awake (true ∷ S) zero l a = absurd (true≢false a)
-wake-awake (false ∷ S) (suc x) l a = wake-awake S x (omega arith) a
-wake-awake (true ∷ S) (suc x) l a = ap suc (wake-awake S x (omega arith) a)
+wake-adds-one [] x l a = absurd (not-suc-le-zero l)
+wake-adds-one (false ∷ S) zero l a = refl
+wake-adds-one (true ∷ S) zero l a = absurd (true≢false a)
+wake-adds-one (false ∷ S) (suc x) l a = wake-adds-one S x (omega arith) a
+wake-adds-one (true ∷ S) (suc x) l a = ap suc (wake-adds-one S x (omega arith) a)
 
 -- an awake slot before can only save a run
 runs-awake-before : (S : List Bool) → runsFrom true S ≤ runsFrom false S
@@ -77,7 +77,7 @@ wake-runs b S x a t = wake-runs-after b S x a (touches-after b S x t)
 pub wake-energy : (J : Jobs) (S : List Bool) (x : ℕ) → x < length S → awake S x ≡ false → touches S x ≡ true → energy J (wakeSlot S x) ≤ suc (energy J S)
 wake-energy J S x l a t =
     let m = mul-le-mul (le-refl (J .wake)) (wake-runs (J .start) S x a t) in
-    let w = wake-awake S x l a in
+    let w = wake-adds-one S x l a in
     omega arith
 
 -- a skeleton stays one
@@ -161,7 +161,7 @@ module _ (J : Jobs) where
 -- not all slots are awake where one sleeps
 sleeper : (S : List Bool) (x : ℕ) → x < length S → awake S x ≡ false → awakeSlots S < length S
 sleeper S x l a =
-    let m = wake-awake S x l a in
+    let m = wake-adds-one S x l a in
     let n = awake-at-most (wakeSlot S x) in
     let e = length-set S x true in
     omega arith
@@ -194,7 +194,7 @@ module _ (J : Jobs) (one : AlwaysOne J) where
       go true s none g ih = absurd (next-found S e k (ltb-true _ _ s) g)
       go true s (some t) g ih =
           let w = next-turn J S t g in
-          let m = wake-awake S t (omega (arith, w .below)) (w .sleeps) in
+          let m = wake-adds-one S t (omega (arith, w .below)) (w .sleeps) in
           let short = ltb-true (workable J S) (totalVolume J) s in
           ih (wakeSlot S t) (length-set S t true ∙ e) (wake-skeleton J S t k) (omega (arith, w .gains)) (omega arith)
 

@@ -1,5 +1,4 @@
 -- No refusal is mistaken for an accepted call.
-use Prim.Native.Nat.{ℕ}
 use mathlib.Core.Path.{_≡_}
 use native.Mathlib.Omega.{arith}
 use Rattle.sched.specs.Refusals.{number}

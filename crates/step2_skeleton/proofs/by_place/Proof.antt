@@ -3,13 +3,13 @@ use Prim.Native.Nat.{_-_, min}
 use native.Mathlib.Omega.{arith}
 use borrow.Author.Needs.{needs}
 use lib.ListN.{length, getD}
-use Rattle.orders.specs.Placing.{Filled, filled-start, filled-turn, filled-end}
+use Rattle.orders.specs.Placing.{FilledTo, filled-start, filled-turn, filled-end}
 use Rattle.step2_skeleton.proofs.by_place.Statement.{statement}
 use Rattle.step2_skeleton.proofs.by_place.Tie as tie
 
 abbrev Inv-loop : tie.InvT-loop
 Inv-loop h releases deadlines ranks starts₀ ends₀ k₀ starts ends k =
-    Filled (λ j. getD releases j 0 - 1) ranks starts₀ starts k × Filled (λ j. min (getD deadlines j 0) (h - 1)) ranks ends₀ ends k
+    FilledTo (λ j. getD releases j 0 - 1) ranks starts₀ starts k × FilledTo (λ j. min (getD deadlines j 0) (h - 1)) ranks ends₀ ends k
 
 abbrev μ-loop : tie.MeasureT-loop
 μ-loop h releases deadlines ranks starts₀ ends₀ k₀ starts ends k = length ranks - k
