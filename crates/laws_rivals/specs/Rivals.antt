@@ -37,6 +37,7 @@ pub record HandsOver (J : Jobs) (a : Answered) (table : List ℕ) : Type 0 where
 pub record Sound (J : Jobs) (a : Answered) (table : List ℕ) : Type 0 where
   pub no-schedule : a .overloaded → NoSchedule J
   pub says-so : NoSchedule J → a .overloaded
+  pub shown : a .overloaded → (from : ℕ) × (to : ℕ) × a .shows from to
   pub interval : (from to : ℕ) → a .shows from to → Overfull J from to
   pub otherwise : (a .overloaded → ⊥) → HandsOver J a table
 

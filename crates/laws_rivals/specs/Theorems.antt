@@ -44,6 +44,7 @@ overload-sound J i table e =
     record {
       no-schedule = λ s rival f. true-not-false _ (overfull-overloaded J (i .a) (i .b) over) (feasible-no-overload J rival f (i .a) (i .b));
       says-so = λ s. tt;
+      shown = λ s. (i .a, i .b, (refl, refl));
       interval = λ from to q. subst (λ (b : ℕ). Overfull J from b) (q .1) (subst (λ (a : ℕ). Overfull J a (i .b)) (q .0) over);
       otherwise = λ s. absurd (s tt);
     }
@@ -54,6 +55,7 @@ planned-sound J f table feasible e =
     record {
       no-schedule = λ s. absurd s;
       says-so = λ s. absurd (s table feasible);
+      shown = λ s. absurd s;
       interval = λ from to q. absurd q;
       otherwise = λ s. record { feasible = feasible; reported = e };
     }

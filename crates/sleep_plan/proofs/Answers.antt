@@ -66,6 +66,7 @@ against J (Planned f) table lent block′ n a puts back =
       sound = record {
         no-schedule = λ e. zero-not-18 n (puts .returned) e;
         says-so = λ none. absurd (a .sound .says-so none);
+        shown = λ e. zero-not-18 n (puts .returned) e;
         interval = λ from to e. zero-not-18 n (puts .returned) (e .0);
         otherwise = λ _. record { feasible = h .feasible; reported = (puts .returned, back 0 (omega arith) ∙ h .reported) };
       };
@@ -76,6 +77,7 @@ against J (Overloaded i) table lent block′ n a puts back =
       sound = record {
         no-schedule = λ e. a .sound .no-schedule tt;
         says-so = λ none. puts .returned;
+        shown = λ e. (numberIn block′ 0, numberIn block′ 1, (e, refl, refl));
         interval = λ from to e. a .sound .interval from to (sym (back 0 (omega arith)) ∙ e .1, sym (back 1 (omega arith)) ∙ e .2);
         otherwise = λ no. absurd (no (puts .returned));
       };
