@@ -84,7 +84,7 @@ readIf (Faulty r) bytes rs ds ps = record { answer = Refused r; releases = rs; d
 unfoldable pub reading : List ℕ → List ℕ → List ℕ → List ℕ → Reading
 reading bytes rs ds ps = readIf (readCheck bytes (length rs) (length ds) (length ps)) bytes rs ds ps
 
--- 01's number and values of an answer: 0 with H, q and the count; a refusal's number with its place
+-- the number and values of an answer: a refusal's are 01's, its number with its place; 0 with H, q and the count for a list that was read is ours
 abbrev pub readNumber : ListRead → ℕ
 readNumber (Read list) = 0
 readNumber (Refused r) = number r

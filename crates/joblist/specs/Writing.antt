@@ -29,7 +29,7 @@ writtenIf (Faulty r) J out = record { answer = Refused r; out = out }
 unfoldable pub writing : Jobs → List ℕ → Writing
 writing J out = writtenIf (spellCheck J (length out)) J out
 
--- 01's number and values of an answer: 0 with the length; a refusal's number with its place
+-- the number and values of an answer: a refusal's are 01's, its number with its place; 0 with the length for a list that was written is ours
 abbrev pub writtenNumber : ListWritten → ℕ
 writtenNumber (Written n) = 0
 writtenNumber (Refused r) = number r

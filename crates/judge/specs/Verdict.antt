@@ -1,4 +1,4 @@
--- 01, "From list to table", last paragraph: the judge's answer for every list and table, and 01's number and values for each of its cases.
+-- 01, "From list to table", last paragraph: the judge's answer for every list and table, and the number and values of each case.
 use Prim.Native.Nat.{ℕ}
 use mathlib.Core.Path.{_≡_}
 use mathlib.Core.Bool.{false}
@@ -31,7 +31,7 @@ judgeCheck J table =
 unfoldable pub judged : Jobs → List ℕ → Judged
 judged J table = accepts (judgeCheck J table) (tableFigures J (take (J .horizon) table))
 
--- 01's numbers: 0 with energy, awake slots and runs; a refusal's own number with its place
+-- a refusal has 01's number with its place, an accepted table energy, awake slots and runs; that its number is 0 is ours
 abbrev pub judgedNumber : Judged → ℕ
 judgedNumber (Accepted f) = 0
 judgedNumber (Refused r) = number r

@@ -1,4 +1,4 @@
--- 01, "Plan record bytes": what the writer puts out for each horizon, table and lent output, and 01's number and values for each answer.
+-- 01, "Plan record bytes": what the writer puts out for each horizon, table and lent output, and the number and values of each answer.
 use Prim.Native.Nat.{ℕ, zero, suc, _+_, _*_, _/_, _≤_}
 use mathlib.Core.Path.{_≡_}
 use mathlib.Core.Bool.{Bool, not}
@@ -74,7 +74,7 @@ abbrev pub outAfter : List ℕ → List ℕ → Checked → List ℕ
 outAfter bytes out Passed = stored bytes out
 outAfter bytes out (Faulty r) = out
 
--- 01's numbers: 0 with the two figures; a refusal's own number with its place
+-- a refusal has 01's number with its place; 0 with the record's length and the awake slots is ours
 abbrev pub writtenNumber : RecordWritten → ℕ
 writtenNumber (Written size) = 0
 writtenNumber (Refused r) = number r

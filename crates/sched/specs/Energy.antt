@@ -13,7 +13,7 @@ awakeSlots [] = 0
 awakeSlots (true ∷ S) = suc (awakeSlots S)
 awakeSlots (false ∷ S) = awakeSlots S
 
--- "A run is a longest stretch of awake slots": one begins at each awake slot that no awake slot precedes. The Bool is the state before.
+-- "A run is a longest stretch of awake slots": one begins at each awake slot that is not directly behind another. The Bool is the state before.
 unfoldable pub runsFrom : Bool → List Bool → ℕ
 runsFrom b [] = 0
 runsFrom b (false ∷ S) = runsFrom false S

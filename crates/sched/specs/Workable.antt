@@ -18,7 +18,7 @@ pub record Placement (J : Jobs) (S : List Bool) (placed : List ℕ) : Type 0 whe
   pub own : (t : ℕ) → t < J .horizon → getD placed t 0 < count J → OwnSlot J (getD placed t 0) t
   pub often : (j : ℕ) → j < count J → times j placed ≤ volume J j
 
--- "the number of job units" of a placement
+-- how many job units a placement has
 unfoldable pub units : Jobs → List ℕ → ℕ
 units J [] = 0
 units J (x ∷ rest) = elim (ltb x (count J)) [ true ↦ suc (units J rest) | false ↦ units J rest ]
