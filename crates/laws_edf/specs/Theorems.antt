@@ -131,7 +131,7 @@ no-overload-feasible J p free =
 
 -- There is a feasible table exactly where no interval is overloaded.
 pub feasible-iff-no-overload : (J : Jobs) → Passes J → ((table : List ℕ) × Feasible J table) ↔ ((a b : ℕ) → overloaded J a b ≡ false)
-feasible-iff-no-overload J p = ((λ f. feasible-no-overload J (f .0) (f .1)), no-overload-feasible J p)
+feasible-iff-no-overload J p = ((λ f a b. feasible-no-overload J (f .0) (f .1) _ _), no-overload-feasible J p)
 
 -- A volume larger than d−r overloads the job's own interval.
 pub large-volume-overfull : (J : Jobs) (j : ℕ) → Passes J → j < count J → deadline J j - release J j < volume J j → Overfull J (release J j) (deadline J j)
@@ -139,8 +139,9 @@ unfolding volumeInside
 large-volume-overfull J j p l large =
     let r = release J j in
     let d = deadline J j in
+    let good = p .good j l in
     let own = volume-inside J r d j (omega arith) (omega arith) in
-    record { span = p .good j l .span; within = p .good j l .within; more = omega (arith, own, sum-term (count J) (volumeIf J r d) j l) }
+    record { span = good .span; within = good .within; more = omega (arith, good, own, sum-term (count J) (volumeIf J r d) j l) }
 
 -- The interval that is shown begins with a job's release and ends with a job's deadline.
 pub shown-ends : (J : Jobs) (i : Interval) → Passes J → shownOverload J ≡ some i →

@@ -144,11 +144,11 @@ overload-told J lent a b p m over =
     let (i, e) = some-shown J a b over in
     (i, shown-some J i e, plan-ended planned J lent (Overloaded i) (early-overload J (length lent) p m i e))
 
--- "A volume larger than d−r is no field fault;
+-- "A volume larger than d−r is no field fault; it is an overload." The check of a job lets it pass
 pub large-volume-no-fault : (h j r d p : ℕ) → r < d → d ≤ h → d - r < p → jobCheck h j r d p ≡ Passed
 large-volume-no-fault h j r d p span within large = job-passes h j r d p (record { span = span; within = within; some = omega arith })
 
--- it is an overload."
+-- and in a list that passes, with a table of at least H bytes, it gives 18
 pub large-volume-overloads : (J : Jobs) (lent : List ℕ) (j : ℕ) → Passes J → J .horizon ≤ length lent → j < count J →
     deadline J j - release J j < volume J j → outcomeNumber ((plan J lent) .answer) ≡ 18
 large-volume-overloads J lent j p m l large =

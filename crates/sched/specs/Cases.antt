@@ -56,6 +56,7 @@ pub record Rival : Type 0 where
   pub table : List ℕ
   pub energy : ℕ
 
+-- a row of the table below; the rival is there for a plan that is not the best
 pub record Row : Type 0 where
   pub worked : Worked
   pub rival : Option Rival
@@ -90,12 +91,12 @@ found J =
       values = outcomeValues (p .answer);
     }
 
--- a row of the table: a planned list
+-- a planned list
 plans : Jobs → List ℕ → List ℕ → List ℕ → List ℕ → Row
 plans J sk ord tab vals =
     record { worked = record { list = J; skeleton = sk; order = ord; table = tab; number = 0; values = vals }; rival = none }
 
--- a row of the table: an overloaded list
+-- an overloaded list
 overloads : Jobs → ℕ → ℕ → Row
 overloads J a b =
     record {
@@ -103,7 +104,7 @@ overloads J a b =
       rival = none;
     }
 
--- a row whose plan is not the best: with this table, the list costs so much
+-- the same row, with a table that costs so much
 beaten : List ℕ → ℕ → Row → Row
 beaten tab cost row = record { worked = row .worked; rival = some (record { table = tab; energy = cost }) }
 
@@ -126,7 +127,7 @@ starred =
     ∷ plans (jobs 1 65535 (job 0 1 1 ∷ [])) (0 ∷ []) [] (0 ∷ []) (65536 ∷ 1 ∷ 1 ∷ 0 ∷ [])
     ∷ []
 
--- "Two separate runs would cost 6, so a plan need not be the best": a feasible table that costs this, and less than the plan's
+-- "Two separate runs would cost 6, so a plan need not be the best": the rival's table is feasible, costs this, and that is less than the plan
 pub record Cheaper (w : Worked) (r : Rival) : Type 0 where
   pub feasible : Feasible (w .list) (r .table)
   pub costs : energy (w .list) (awakeOf (r .table)) ≡ r .energy
@@ -137,7 +138,7 @@ pub record Right (row : Row) : Type 0 where
   pub gives : found (row .worked .list) ≡ row .worked
   pub beats : (r : Rival) → row .rival ≡ some r → Cheaper (row .worked) r
 
--- so it is where tests that compute say so
+-- A row is right where tests that compute say so.
 
 cheaperTest : Worked → Option Rival → Bool
 cheaperTest w none = true

@@ -1,5 +1,5 @@
 -- Feasibility by tests that compute, for closed cases.
-use Prim.Native.Nat.{ℕ, _≤_, _<_}
+use Prim.Native.Nat.{ℕ, _<_}
 use mathlib.Core.Path.{_≡_}
 use mathlib.Core.Bool.{Bool, true, _&&_, _||_}
 use mathlib.Core.List.{List}
@@ -54,7 +54,7 @@ module _ (J : Jobs) where
       let (long, rest) = and-true (eqb (length table) (J .horizon)) (slotsTest J table && exactTest J table) e in
       let (slots, exact) = and-true (slotsTest J table) (exactTest J table) rest in
       let slot : (t : ℕ) → t < J .horizon → (knownTest J (getD table t 0) ≡ true) × (ownTest J (getD table t 0) t ≡ true)
-          = λ t l. and-true (knownTest J (getD table t 0)) (ownTest J (getD table t 0) t) (all-elim (J .horizon) _ slots t l) in
+      = λ t l. and-true (knownTest J (getD table t 0)) (ownTest J (getD table t 0) t) (all-elim (J .horizon) _ slots t l) in
       record {
         long = eqb-true (length table) (J .horizon) long;
         known = λ t l. known (getD table t 0) (slot t l .0);
