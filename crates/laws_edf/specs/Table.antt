@@ -33,7 +33,7 @@ choice-earliest J t left latest = go (choice J t left latest) (earliest-view (de
   where
     go : (o : Option ℕ) → EarliestView (deadline J) (runnable J t left) (count J) o → Takes J t left o
     go none v = v
-    go (some k) v = record { below = v .below; able = v .holds; first = λ j l r. v .first j l r .sooner }
+    go (some k) v = record { below = v .below; able = v .holds; first = λ j l r. omega (arith, v .first j l r .sooner) }
 
 module _ (J : Jobs) (few : count J ≤ 254) (rule : Rule) (ok : EarliestRule J rule) where
   -- The set is kept

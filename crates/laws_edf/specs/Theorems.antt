@@ -1,7 +1,7 @@
 -- What earliest deadline first says about the words of 01: the workable volume of a set of slots, which slots help it, and when a list
 -- has a feasible table. `FromState` has the law for the rest of a run, from any slot and any units left; `AnyTie` that the rule on equal
 -- deadlines does not matter to what is served.
-use Prim.Native.Nat.{ℕ, suc, _≤_, _<_}
+use Prim.Native.Nat.{ℕ, suc, _-_, _≤_, _<_}
 use mathlib.Core.Path.{_≡_, sym, ap, _∙_}
 use mathlib.Core.Bool.{Bool, true, false}
 use mathlib.Core.List.{List}
@@ -9,12 +9,12 @@ use mathlib.Core.Logic.{_⊎_, _↔_}
 use mathlib.Core.Option.{none, some}
 use native.Mathlib.Omega.{arith}
 use lib.ListN.{length, replicate, length-replicate, getD-replicate}
-use Rattle.sched.specs.Bounded.Laws.{by-bool, true-not-false}
+use Rattle.sched.specs.Bounded.Laws.{by-bool, true-not-false, sum-term}
 use Rattle.sched.specs.Jobs.{Jobs, count, release, deadline, volume, totalVolume}
 use Rattle.sched.specs.Checks.{Passes}
 use Rattle.sched.specs.Slots.{awake, awakeOf, wakeSlot}
 use Rattle.sched.specs.Feasible.{Feasible}
-use Rattle.sched.specs.Overload.{overloaded, shownOverload}
+use Rattle.sched.specs.Overload.{volumeIf, volumeInside, overloaded, shownOverload, Overfull}
 use Rattle.sched.specs.declared.Interval.{Interval}
 use Rattle.sched.specs.Skeleton.{isSkeleton}
 use Rattle.sched.specs.Workable.{Placement, Greatest, units, workable}
@@ -30,13 +30,9 @@ use Rattle.laws_edf.specs.Whole.{run-greatest, search-finds-run, served-
 use Rattle.laws_edf.specs.Sets.{touching, skeleton-windows}
 use Rattle.laws_edf.specs.Woken.{woken-worth, lacks-if-helps, helps-if-carried, helped-before}
 use Rattle.laws_edf.specs.Room.{no-overload-fits}
-use Rattle.sched.specs.Overload.{Overfull}
 use Rattle.laws_edf.specs.Overload.Counting.{feasible-no-overload}
 use Rattle.laws_edf.specs.Overload.Laws.{shown-some}
-use Rattle.laws_edf.specs.Overload.Ends.{shown-deadline, shown-release}
-use Rattle.laws_edf.specs.Overload.Order.{InOrder}
-use Rattle.laws_edf.specs.Overload.Search.{startFor, startOr}
-use Rattle.laws_edf.specs.Overload.Search.Laws.{least-end-shown}
+use Rattle.laws_edf.specs.Overload.Ends.{volume-inside, shown-deadline, shown-release}
 
 -- The workable volume
 
@@ -118,7 +114,7 @@ table-feasible J S p long all = any-rule-feasible J (choice J) S p (choice-earli
 -- No overload
 
 -- Where no interval is overloaded, all volume fits into all slots.
-pub no-overload-workable : (J : Jobs) → Passes J → ((a b : ℕ) → overloaded J a b ≡ false) → workable J (replicate (J .horizon) true) ≡ totalVolume J
+no-overload-workable : (J : Jobs) → Passes J → ((a b : ℕ) → overloaded J a b ≡ false) → workable J (replicate (J .horizon) true) ≡ totalVolume J
 no-overload-workable J p free =
     let all = replicate (J .horizon) true in
     omega (
@@ -128,22 +124,26 @@ no-overload-workable J p free =
       all-awake-serves (spans J) (awake all) (volume J) (J .horizon) (no-overload-fits J p free) (λ t l. getD-replicate (J .horizon) t true false l),
     )
 
-pub no-overload-feasible : (J : Jobs) → Passes J → ((a b : ℕ) → overloaded J a b ≡ false) → (table : List ℕ) × Feasible J table
+no-overload-feasible : (J : Jobs) → Passes J → ((a b : ℕ) → overloaded J a b ≡ false) → (table : List ℕ) × Feasible J table
 no-overload-feasible J p free =
     let all = replicate (J .horizon) true in
     (tableOf J all, table-feasible J all p (length-replicate (J .horizon) true) (no-overload-workable J p free))
 
 -- There is a feasible table exactly where no interval is overloaded.
 pub feasible-iff-no-overload : (J : Jobs) → Passes J → ((table : List ℕ) × Feasible J table) ↔ ((a b : ℕ) → overloaded J a b ≡ false)
-feasible-iff-no-overload J p = ((λ f. feasible-no-overload J (f .0) (f .1)), no-overload-feasible J p)
+feasible-iff-no-overload J p = ((λ f a b. feasible-no-overload J (f .0) (f .1) _ _), no-overload-feasible J p)
+
+-- A volume larger than d−r overloads the job's own interval.
+pub large-volume-overfull : (J : Jobs) (j : ℕ) → Passes J → j < count J → deadline J j - release J j < volume J j → Overfull J (release J j) (deadline J j)
+unfolding volumeInside
+large-volume-overfull J j p l large =
+    let r = release J j in
+    let d = deadline J j in
+    let good = p .good j l in
+    let own = volume-inside J r d j (omega arith) (omega arith) in
+    record { span = good .span; within = good .within; more = omega (arith, good, own, sum-term (count J) (volumeIf J r d) j l) }
 
 -- The interval that is shown begins with a job's release and ends with a job's deadline.
 pub shown-ends : (J : Jobs) (i : Interval) → Passes J → shownOverload J ≡ some i →
     ((k : ℕ) × (k < count J) × (release J k ≡ i .a)) × ((k : ℕ) × (k < count J) × (deadline J k ≡ i .b))
 shown-ends J i p e = let s = shown-some J i e in (shown-release J p i s, shown-deadline J p i s)
-
--- So the least end of an overloaded interval is enough: with the jobs in any order by falling release, their volumes added up tell its start.
-pub search-finds-shown :
-    (J : Jobs) (js : List ℕ) (a b : ℕ) → Passes J → InOrder (release J) (count J) js → Overfull J a b →
-    ((x y : ℕ) → y < b → Overfull J x y → ⊥) → some (record { a = startOr 0 (startFor J b js 0); b = b }) ≡ shownOverload J
-search-finds-shown J js a b p o over least = least-end-shown J p js o a b over least

@@ -29,7 +29,7 @@ module _ (J : Jobs) (S : List Bool) (p : Passes J) where
   unfolding tableFrom
   from-feasible long full = slept-feasible J (tableOf J S) (table-feasible J S p long full)
 
-  pub from-energy : energy J (awakeOf (tableFrom J S)) ≤ energy J S
+  from-energy : energy J (awakeOf (tableFrom J S)) ≤ energy J S
   unfolding tableFrom
   from-energy = omega (arith, slept-energy J (tableOf J S), ap (energy J) (table-keeps-set J S p))
 

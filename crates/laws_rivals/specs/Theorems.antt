@@ -1,5 +1,5 @@
--- Demand 3 of the plan that 01 defines, what `added` counts, and step 3 to its end.
-use Prim.Native.Nat.{ℕ, _+_, _-_, _≤_}
+-- Demand 3 of the plan that 01 defines, what `added` counts, and steps 1 and 3 to their ends.
+use Prim.Native.Nat.{ℕ, _+_, _-_, _≤_, _<_}
 use mathlib.Core.Path.{_≡_, refl, sym, ap, subst, _∙_}
 use mathlib.Core.Bool.{false}
 use mathlib.Core.List.{List}
@@ -8,27 +8,28 @@ use native.Mathlib.Omega.{arith}
 use lib.ListN.{length, take, drop}
 use lib.Seq.{take-at}
 use Rattle.sched.specs.Bounded.Laws.{true-not-false}
-use Rattle.sched.specs.Jobs.{Jobs, totalVolume}
-use Rattle.sched.specs.Checks.{Passes}
+use Rattle.sched.specs.Jobs.{Jobs, count, release, deadline, volume, totalVolume}
+use Rattle.sched.specs.Checks.{Passes, jobCheck}
+use Rattle.sched.specs.Checks.Laws.{job-passes}
 use Rattle.sched.specs.Slots.{awakeOf, times}
 use Rattle.sched.specs.Feasible.{Feasible}
 use Rattle.sched.specs.Energy.{energy}
-use Rattle.sched.specs.Overload.{overloaded, shownOverload}
+use Rattle.sched.specs.Overload.{overloaded, shownOverload, Overfull, Shown}
 use Rattle.sched.specs.Skeleton.{leastSkeleton}
 use Rattle.sched.specs.Workable.{workable}
 use Rattle.sched.specs.Extension.{woken, extended}
 use Rattle.sched.specs.Steps.{planTable}
-use Rattle.sched.specs.Outcomes.{Plan, figuresOf, planBy, planned, plan}
+use Rattle.sched.specs.Outcomes.{Plan, figuresOf, planBy, planned, plan, outcomeNumber}
 use Rattle.sched.specs.Outcomes.Laws.{early-overload, early-none, plan-ended, plan-goes-on}
+use Rattle.sched.specs.declared.Checked.the-variants.{Passed}
 use Rattle.sched.specs.declared.PlanFigures.{PlanFigures}
 use Rattle.sched.specs.declared.Interval.{Interval}
 use Rattle.sched.specs.declared.Outcome.{Outcome}
 use Rattle.sched.specs.declared.Outcome.the-variants.{Planned, Overloaded}
-use Rattle.sched.specs.Overload.{Overfull}
-use Rattle.laws_edf.specs.Overload.Laws.{shown-none, shown-some, overfull-overloaded}
+use Rattle.laws_edf.specs.Overload.Laws.{shown-none, some-shown, shown-some, overfull-overloaded}
 use Rattle.laws_edf.specs.Overload.Counting.{feasible-no-overload}
 use Rattle.laws_rivals.specs.Rivals.{Sound, AgainstRivals, Reports, asOutcome, Delivers, CountsWoken}
-use Rattle.laws_edf.specs.Theorems.{unhelpful-stays}
+use Rattle.laws_edf.specs.Theorems.{unhelpful-stays, large-volume-overfull}
 use Rattle.laws_skeleton.specs.Theorems.{least-length}
 use Rattle.laws_extension.specs.Waking.Cursor.{wokenFrom, triedFrom}
 use Rattle.laws_extension.specs.Waking.Cursor.Laws.{woken-from}
@@ -38,7 +39,7 @@ use Rattle.laws_rivals.specs.Steps.{extended-full, added-is-shortfall, p
 -- Any planner
 
 -- an interval is shown: no rival has a schedule
-pub overload-sound : (J : Jobs) (i : Interval) (table : List ℕ) → shownOverload J ≡ some i → Sound J (asOutcome (Overloaded i)) table
+overload-sound : (J : Jobs) (i : Interval) (table : List ℕ) → shownOverload J ≡ some i → Sound J (asOutcome (Overloaded i)) table
 overload-sound J i table e =
     let over = (shown-some J i e) .over in
     record {
@@ -50,7 +51,7 @@ overload-sound J i table e =
     }
 
 -- a feasible table is handed over with its energy: there is no reason to say overloaded
-pub planned-sound : (J : Jobs) (f : PlanFigures) (table : List ℕ) → Feasible J table → f .energy ≡ energy J (awakeOf table) → Sound J (asOutcome (Planned f)) table
+planned-sound : (J : Jobs) (f : PlanFigures) (table : List ℕ) → Feasible J table → f .energy ≡ energy J (awakeOf table) → Sound J (asOutcome (Planned f)) table
 planned-sound J f table feasible e =
     record {
       no-schedule = λ s. absurd s;
@@ -86,7 +87,7 @@ module _ (J : Jobs) (lent : List ℕ) (p : Passes J) (n : (a b : ℕ) → overlo
   unfolding planned
   first-bytes = take-at (planTable J) (drop (J .horizon) lent) (J .horizon) ((plan-feasible J p n) .long)
 
-  pub plan-delivers : Delivers J (planned J lent)
+  plan-delivers : Delivers J (planned J lent)
   unfolding planned figuresOf
   plan-delivers = record {
     figures = figuresOf J (planTable J) (length (woken J (leastSkeleton J)));
@@ -132,6 +133,27 @@ added-counts J lent f p m e = by-shown (shownOverload J) refl
     by-shown none q =
         let same = planned-figures J lent f (sym (ap (λ (x : Plan). x .answer) (plan-goes-on planned J lent (early-none J (length lent) p m q))) ∙ e) in
         (same, same ∙ added-is-shortfall J p (shown-none J q))
+
+-- Step 1
+
+-- "If an interval is overloaded, the outcome is overload with a and b": of the interval that is shown. The lent table stays as it was.
+pub overload-told : (J : Jobs) (lent : List ℕ) (a b : ℕ) → Passes J → J .horizon ≤ length lent → Overfull J a b →
+    (i : Interval) × Shown J i × (plan J lent ≡ record { answer = Overloaded i; table = lent })
+unfolding plan
+overload-told J lent a b p m over =
+    let (i, e) = some-shown J a b over in
+    (i, shown-some J i e, plan-ended planned J lent (Overloaded i) (early-overload J (length lent) p m i e))
+
+-- "A volume larger than d−r is no field fault; it is an overload." The check of a job lets it pass
+pub large-volume-no-fault : (h j r d p : ℕ) → r < d → d ≤ h → d - r < p → jobCheck h j r d p ≡ Passed
+large-volume-no-fault h j r d p span within large = job-passes h j r d p (record { span = span; within = within; some = omega arith })
+
+-- and in a list that passes, with a table of at least H bytes, it gives 18
+pub large-volume-overloads : (J : Jobs) (lent : List ℕ) (j : ℕ) → Passes J → J .horizon ≤ length lent → j < count J →
+    deadline J j - release J j < volume J j → outcomeNumber ((plan J lent) .answer) ≡ 18
+large-volume-overloads J lent j p m l large =
+    let (i, shown, told) = overload-told J lent (release J j) (deadline J j) p m (large-volume-overfull J j p l large) in
+    ap (λ (x : Plan). outcomeNumber (x .answer)) told
 
 -- Step 3, from the least skeleton of a list without an overloaded interval
 

@@ -18,8 +18,8 @@ precedes-both (false ∷ S) (true ∷ R) p r = absurd r
 precedes-both (true ∷ S) (false ∷ R) p r = absurd p
 precedes-both (true ∷ S) (true ∷ R) p r = ap (λ (l : List Bool). true ∷ l) (precedes-both S R p r)
 
--- where S precedes R and they differ first at slot t, R is awake there
-pub precedes-differ : (S R : List Bool) (t : ℕ) → Precedes S R → ((u : ℕ) → u < t → awake S u ≡ awake R u) → awake S t ≢ awake R t → awake R t ≡ true
+-- where S precedes R and they differ first at slot t, S is asleep there
+pub precedes-differ : (S R : List Bool) (t : ℕ) → Precedes S R → ((u : ℕ) → u < t → awake S u ≡ awake R u) → awake S t ≢ awake R t → awake S t ≡ false
 precedes-differ [] [] t p same d = absurd (d refl)
 precedes-differ [] (y ∷ R) t p same d = absurd p
 precedes-differ (x ∷ S) [] t p same d = absurd p

@@ -1,7 +1,7 @@
 -- 01, step 2: what is proved of the least skeleton. `leastSkeleton` is the literal definition, by trying all sets; `builtSkeleton` and
 -- `skeletonEnergy` come from the recursion over slots (`Windows`), `runsOf` from one number a job (`Runs`).
 use Prim.Native.Nat.{ℕ, suc, _-_, _≤_, _<_}
-use mathlib.Core.Path.{_≡_, sym, ap, _∙_}
+use mathlib.Core.Path.{_≡_, sym, ap, subst, _∙_}
 use mathlib.Core.Bool.{Bool, true, false}
 use mathlib.Core.List.{List}
 use mathlib.Core.Logic.{_≢_}
@@ -12,11 +12,10 @@ use Rattle.sched.specs.Jobs.{Jobs, count}
 use Rattle.sched.specs.Checks.{Passes}
 use Rattle.sched.specs.Slots.{awake}
 use Rattle.sched.specs.Energy.{energy}
-use Rattle.sched.specs.Skeleton.{isSkeleton, leastSkeleton}
+use Rattle.sched.specs.Skeleton.{isSkeleton, leastSkeleton, Least}
 use Rattle.laws_skeleton.specs.Recursion.{least, built}
 use Rattle.laws_skeleton.specs.Recursion.Exchange.{later-sleep, later-wake, allowed-costs}
 use Rattle.laws_skeleton.specs.Recursion.Built.{built-length, built-allowed, built-costs, built-precedes}
-use Rattle.sched.specs.Skeleton.{Precedes, Least}
 use Rattle.laws_skeleton.specs.Precedence.{precedes-differ}
 use Rattle.laws_skeleton.specs.Enumeration.{least-is}
 use Rattle.laws_skeleton.specs.Windows.{due, skeletonEnergy, builtSkeleton}
@@ -44,29 +43,18 @@ awake-falls J t l =
     rw left (later-wake (due J) (J .wake) (due-rises J) (J .horizon - suc t) t)
 
 -- no skeleton costs less than the recursion's value
-pub skeleton-costs : (J : Jobs) (S : List Bool) → length S ≡ J .horizon → isSkeleton J S ≡ true → skeletonEnergy J ≤ energy J S
+skeleton-costs : (J : Jobs) (S : List Bool) → length S ≡ J .horizon → isSkeleton J S ≡ true → skeletonEnergy J ≤ energy J S
 skeleton-costs J S n e = allowed-costs (due J) (J .wake) (due-rises J) (J .horizon) (J .start) 0 0 S n (skeleton-allowed J S e)
 
 -- the built set has H slots, is a skeleton, and costs just that
-pub built-long : (J : Jobs) → length (builtSkeleton J) ≡ J .horizon
+built-long : (J : Jobs) → length (builtSkeleton J) ≡ J .horizon
 built-long J = built-length (due J) (J .wake) (J .horizon) (J .start) 0 0
 
-pub built-is-skeleton : (J : Jobs) → Passes J → isSkeleton J (builtSkeleton J) ≡ true
+built-is-skeleton : (J : Jobs) → Passes J → isSkeleton J (builtSkeleton J) ≡ true
 built-is-skeleton J p = allowed-skeleton J (builtSkeleton J) p (built-long J) (built-allowed (due J) (J .wake) (J .horizon) (J .start) 0 0)
 
-pub built-energy : (J : Jobs) → energy J (builtSkeleton J) ≡ skeletonEnergy J
+built-energy : (J : Jobs) → energy J (builtSkeleton J) ≡ skeletonEnergy J
 built-energy J = built-costs (due J) (J .wake) (J .horizon) (J .start) 0 0
-
--- a skeleton of that energy that differs from it is awake at the first slot where the two differ
-built-comes-first : (J : Jobs) (S : List Bool) → length S ≡ J .horizon → isSkeleton J S ≡ true → energy J S ≡ skeletonEnergy J
-    → Precedes (builtSkeleton J) S
-built-comes-first J S n e same =
-    built-precedes (due J) (J .wake) (due-rises J) (J .horizon) (J .start) 0 0 S n (skeleton-allowed J S e) same
-
-pub built-sleeps-first : (J : Jobs) (S : List Bool) (t : ℕ) → length S ≡ J .horizon → isSkeleton J S ≡ true
-    → energy J S ≡ skeletonEnergy J → ((u : ℕ) → u < t → awake (builtSkeleton J) u ≡ awake S u)
-    → awake (builtSkeleton J) t ≢ awake S t → awake S t ≡ true
-built-sleeps-first J S t n e same before differ = precedes-differ (builtSkeleton J) S t (built-comes-first J S n e same) before differ
 
 -- so it has what step 2 asks for
 built-least : (J : Jobs) → Passes J → Least J (builtSkeleton J)
@@ -74,25 +62,36 @@ built-least J p = record {
   long = built-long J;
   skeleton = built-is-skeleton J p;
   cheapest = λ S n e. omega (arith, built-energy J, skeleton-costs J S n e);
-  first = λ S n e same. built-comes-first J S n e (same ∙ built-energy J);
+  first = λ S n e same. built-precedes (due J) (J .wake) (due-rises J) (J .horizon) (J .start) 0 0 S n (skeleton-allowed J S e) (same ∙ built-energy J);
 }
+
+built-is-least : (J : Jobs) → Passes J → leastSkeleton J ≡ builtSkeleton J
+built-is-least J p = least-is J (builtSkeleton J) (built-least J p)
 
 -- The least skeleton of 01
 
-pub built-is-least : (J : Jobs) → Passes J → leastSkeleton J ≡ builtSkeleton J
-built-is-least J p = least-is J (builtSkeleton J) (built-least J p)
+-- "Take the skeleton of least energy", with its tie, as `Least` says it. `least-is` (`Enumeration`) says that no other set is `Least`.
+pub least-is-least : (J : Jobs) → Passes J → Least J (leastSkeleton J)
+least-is-least J p = subst (Least J) (sym (built-is-least J p)) (built-least J p)
 
 pub least-is-skeleton : (J : Jobs) → Passes J → isSkeleton J (leastSkeleton J) ≡ true
-least-is-skeleton J p = rw (built-is-least J p) (built-is-skeleton J p)
+least-is-skeleton J p = least-is-least J p .skeleton
 
 pub least-length : (J : Jobs) → Passes J → length (leastSkeleton J) ≡ J .horizon
-least-length J p = rw (built-is-least J p) (built-long J)
-
-pub least-energy : (J : Jobs) → Passes J → energy J (leastSkeleton J) ≡ skeletonEnergy J
-least-energy J p = rw (built-is-least J p) (built-energy J)
+least-length J p = least-is-least J p .long
 
 pub least-cheapest : (J : Jobs) (S : List Bool) → Passes J → length S ≡ J .horizon → isSkeleton J S ≡ true → energy J (leastSkeleton J) ≤ energy J S
-least-cheapest J S p n e = omega (arith, least-energy J p, skeleton-costs J S n e)
+least-cheapest J S p n e = least-is-least J p .cheapest S n e
+
+-- "Among equals take the one that, at the first slot where two differ, is asleep", slot by slot
+pub least-sleeps-first : (J : Jobs) (S : List Bool) (t : ℕ) → Passes J → length S ≡ J .horizon → isSkeleton J S ≡ true
+    → energy J S ≡ energy J (leastSkeleton J) → ((u : ℕ) → u < t → awake (leastSkeleton J) u ≡ awake S u)
+    → awake (leastSkeleton J) t ≢ awake S t → awake (leastSkeleton J) t ≡ false
+least-sleeps-first J S t p n e same before differ = precedes-differ (leastSkeleton J) S t (least-is-least J p .first S n e same) before differ
+
+-- its energy is the recursion's value
+pub least-energy : (J : Jobs) → Passes J → energy J (leastSkeleton J) ≡ skeletonEnergy J
+least-energy J p = rw (built-is-least J p) (built-energy J)
 
 -- The least skeleton as runs. Any order of the jobs by the ends of their windows will do.
 
@@ -113,7 +112,7 @@ values-give-energy J b order p o =
     start-cost J p b order (order-rest J order o) (λ k m n. o .all k m) ∙ ap (λ (k : ℕ). least (due J) (J .wake) k b 0 0) (sub-zero (J .horizon))
 
 -- the runs are those of that set
-pub runs-are-built : (J : Jobs) (b : Bool) (order : List ℕ) → Passes J → Order J order
+runs-are-built : (J : Jobs) (b : Bool) (order : List ℕ) → Passes J → Order J order
     → spread (J .horizon) 0 (runsFromStart J b order (values J order)) ≡ built (due J) (J .wake) (J .horizon) b 0 0
 runs-are-built J b order p o =
     start-built J p b order (order-rest J order o) (λ k m n. o .all k m) ∙ ap (λ (k : ℕ). built (due J) (J .wake) k b 0 0) (sub-zero (J .horizon))

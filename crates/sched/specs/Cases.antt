@@ -1,15 +1,23 @@
 -- 01, "Plans worked by hand": the starred plans, in one table, and the one claim that the definitions give just these, so that a wrong edit
--- of a definition is refused here. What 01 does not name (some skeletons, orders and tables) was computed by a separate search.
-use Prim.Native.Nat.{ℕ, suc}
+-- of a definition is refused here. What 01 does not name (some skeletons, orders and tables) was computed by a separate search. Where 01 says
+-- that a plan is not the best, its row has a rival's table that costs less, and the claim speaks of that, too.
+use Prim.Native.Nat.{ℕ, suc, _<_}
 use mathlib.Core.Path.{_≡_, refl}
-use mathlib.Core.Bool.{Bool, true, false}
-use mathlib.Core.List.{List, [], _∷_, map}
+use mathlib.Core.Bool.{Bool, true, false, _&&_}
+use mathlib.Core.List.{List, [], _∷_, map, List·Memᴰ, List·Memᴰ·cases-cons as apart, List·Memᴰ·not-nil as nowhere}
+use mathlib.Core.Logic.{_⊎_, inl, inr}
+use mathlib.Core.Option.{Option, none, some}
+use borrow.Author.Tests.{ltb-true, eqb-true}
 use lib.ListN.{replicate}
+use lib.Dec.{ltb, eqb}
 use Rattle.sched.specs.Bounded.{total, anyBelow, allBelow, sumBelow, maxBelow, leastFrom, lastBelow, keep, firstLeast}
+use Rattle.sched.specs.Bounded.Laws.{and-true}
 use Rattle.sched.specs.Jobs.{Jobs, jobsOf}
 use Rattle.sched.specs.Checks.{checkFrom}
-use Rattle.sched.specs.Slots.{allSets}
-use Rattle.sched.specs.Energy.{awakeSlots, runsFrom}
+use Rattle.sched.specs.Slots.{awakeOf, times, allSets}
+use Rattle.sched.specs.Energy.{awakeSlots, runsFrom, energy}
+use Rattle.sched.specs.Feasible.{Feasible}
+use Rattle.sched.specs.Feasible.Laws.{feasibleTest, test-feasible}
 use Rattle.sched.specs.Overload.{volumeIf, volumeInside, overloaded, overloadEndingAt, shownOverload}
 use Rattle.sched.specs.Skeleton.{isSkeleton, skeletons, leastOf, leastSkeleton}
 use Rattle.sched.specs.Workable.{mostFrom, workable}
@@ -43,6 +51,16 @@ pub record Worked : Type 0 where
   pub number : ℕ
   pub values : List ℕ
 
+-- a rival's table, and what it costs
+pub record Rival : Type 0 where
+  pub table : List ℕ
+  pub energy : ℕ
+
+-- a row of the table below; the rival is there for a plan that is not the best
+pub record Row : Type 0 where
+  pub worked : Worked
+  pub rival : Option Rival
+
 -- the slots of a set, from slot t on
 members : ℕ → List Bool → List ℕ
 members t [] = []
@@ -73,21 +91,30 @@ found J =
       values = outcomeValues (p .answer);
     }
 
--- a row of the table: a planned list
-plans : Jobs → List ℕ → List ℕ → List ℕ → List ℕ → Worked
-plans J sk ord tab vals = record { list = J; skeleton = sk; order = ord; table = tab; number = 0; values = vals }
+-- a planned list
+plans : Jobs → List ℕ → List ℕ → List ℕ → List ℕ → Row
+plans J sk ord tab vals =
+    record { worked = record { list = J; skeleton = sk; order = ord; table = tab; number = 0; values = vals }; rival = none }
 
--- a row of the table: an overloaded list
-overloads : Jobs → ℕ → ℕ → Worked
+-- an overloaded list
+overloads : Jobs → ℕ → ℕ → Row
 overloads J a b =
-    record { list = J; skeleton = []; order = []; table = replicate (J .horizon) 7; number = 18; values = a ∷ b ∷ [] }
+    record {
+      worked = record { list = J; skeleton = []; order = []; table = replicate (J .horizon) 7; number = 18; values = a ∷ b ∷ [] };
+      rival = none;
+    }
 
-pub starred : List Worked
+-- the same row, with a table that costs so much
+beaten : List ℕ → ℕ → Row → Row
+beaten tab cost row = record { worked = row .worked; rival = some (record { table = tab; energy = cost }) }
+
+pub starred : List Row
 starred =
     plans (jobs 12 3 (job 0 4 2 ∷ job 6 10 2 ∷ [])) (4 ∷ 5 ∷ []) (3 ∷ 2 ∷ 6 ∷ 7 ∷ [])
     (255 ∷ 255 ∷ 0 ∷ 0 ∷ 254 ∷ 254 ∷ 1 ∷ 1 ∷ 255 ∷ 255 ∷ 255 ∷ 255 ∷ []) (9 ∷ 6 ∷ 1 ∷ 4 ∷ [])
-    ∷ plans (jobs 12 1 (job 0 4 2 ∷ job 6 10 2 ∷ [])) (4 ∷ 5 ∷ []) (3 ∷ 2 ∷ 6 ∷ 7 ∷ [])
-    (255 ∷ 255 ∷ 0 ∷ 0 ∷ 254 ∷ 254 ∷ 1 ∷ 1 ∷ 255 ∷ 255 ∷ 255 ∷ 255 ∷ []) (7 ∷ 6 ∷ 1 ∷ 4 ∷ [])
+    ∷ beaten (255 ∷ 255 ∷ 0 ∷ 0 ∷ 255 ∷ 255 ∷ 1 ∷ 1 ∷ 255 ∷ 255 ∷ 255 ∷ 255 ∷ []) 6
+    (plans (jobs 12 1 (job 0 4 2 ∷ job 6 10 2 ∷ [])) (4 ∷ 5 ∷ []) (3 ∷ 2 ∷ 6 ∷ 7 ∷ [])
+    (255 ∷ 255 ∷ 0 ∷ 0 ∷ 254 ∷ 254 ∷ 1 ∷ 1 ∷ 255 ∷ 255 ∷ 255 ∷ 255 ∷ []) (7 ∷ 6 ∷ 1 ∷ 4 ∷ []))
     ∷ plans (jobs 10 3 (job 0 3 1 ∷ job 8 10 2 ∷ job 0 10 5 ∷ [])) (3 ∷ 9 ∷ []) (2 ∷ 1 ∷ 0 ∷ 4 ∷ 5 ∷ 8 ∷ [])
     (0 ∷ 2 ∷ 2 ∷ 2 ∷ 2 ∷ 2 ∷ 255 ∷ 255 ∷ 1 ∷ 1 ∷ []) (14 ∷ 8 ∷ 2 ∷ 6 ∷ [])
     ∷ plans (jobs 8 2 (job 2 5 3 ∷ [])) (5 ∷ []) (4 ∷ 3 ∷ 2 ∷ [])
@@ -100,11 +127,64 @@ starred =
     ∷ plans (jobs 1 65535 (job 0 1 1 ∷ [])) (0 ∷ []) [] (0 ∷ []) (65536 ∷ 1 ∷ 1 ∷ 0 ∷ [])
     ∷ []
 
--- the definitions give each row of the table from its list
-pub starred-plans : map (λ w. found (w .list)) starred ≡ starred
-unfolding job jobs members skeletonFor orderFor found plans overloads starred
-    total anyBelow allBelow sumBelow maxBelow leastFrom lastBelow keep firstLeast checkFrom allSets awakeSlots runsFrom
+-- "Two separate runs would cost 6, so a plan need not be the best": the rival's table is feasible, costs this, and that is less than the plan
+pub record Cheaper (w : Worked) (r : Rival) : Type 0 where
+  pub feasible : Feasible (w .list) (r .table)
+  pub costs : energy (w .list) (awakeOf (r .table)) ≡ r .energy
+  pub less : r .energy < energy (w .list) (awakeOf (w .table))
+
+-- the definitions give the row's plan from its list, and its rival, if it has one, is cheaper
+pub record Right (row : Row) : Type 0 where
+  pub gives : found (row .worked .list) ≡ row .worked
+  pub beats : (r : Rival) → row .rival ≡ some r → Cheaper (row .worked) r
+
+-- A row is right where tests that compute say so.
+
+cheaperTest : Worked → Option Rival → Bool
+cheaperTest w none = true
+cheaperTest w (some r) =
+    feasibleTest (w .list) (r .table)
+    && (eqb (energy (w .list) (awakeOf (r .table))) (r .energy) && ltb (r .energy) (energy (w .list) (awakeOf (w .table))))
+
+test-cheaper : (w : Worked) (r : Rival) → cheaperTest w (some r) ≡ true → Cheaper w r
+unfolding cheaperTest
+test-cheaper w r e =
+    let costs = energy (w .list) (awakeOf (r .table)) in
+    let plan-costs = energy (w .list) (awakeOf (w .table)) in
+    let (feasible, rest) = and-true (feasibleTest (w .list) (r .table)) (eqb costs (r .energy) && ltb (r .energy) plan-costs) e in
+    let (same, less) = and-true (eqb costs (r .energy)) (ltb (r .energy) plan-costs) rest in
+    record {
+      feasible = test-feasible (w .list) (r .table) feasible;
+      costs = eqb-true costs (r .energy) same;
+      less = ltb-true (r .energy) plan-costs less;
+    }
+
+allCheaper : List Row → Bool
+allCheaper [] = true
+allCheaper (row ∷ rows) = cheaperTest (row .worked) (row .rival) && allCheaper rows
+
+all-right :
+    (rows : List Row) → map (λ row. found (row .worked .list)) rows ≡ map (λ row. row .worked) rows → allCheaper rows ≡ true →
+    (row : Row) → List·Memᴰ row rows → Right row
+unfolding allCheaper
+all-right [] same cheaper row m = absurd (nowhere m)
+all-right (x ∷ rows) same cheaper row m =
+    let (first, later) = and-true (cheaperTest (x .worked) (x .rival)) (allCheaper rows) cheaper in
+    let tail : map (λ row. found (row .worked .list)) rows ≡ map (λ row. row .worked) rows = cc in
+    go first (apart m) (all-right rows tail later row)
+  where
+    here : cheaperTest (x .worked) (x .rival) ≡ true → Right x
+    here first = record { gives = cc; beats = λ r e. test-cheaper (x .worked) r (rw e at first) }
+
+    go : cheaperTest (x .worked) (x .rival) ≡ true → (row ≡ x) ⊎ List·Memᴰ row rows → (List·Memᴰ row rows → Right row) → Right row
+    go first (inl q) ih = rw q (here first)
+    go first (inr i) ih = ih i
+
+-- each row of the table is right
+pub starred-plans : (row : Row) → List·Memᴰ row starred → Right row
+unfolding job jobs members skeletonFor orderFor found plans overloads beaten starred cheaperTest allCheaper
+    times total anyBelow allBelow sumBelow maxBelow leastFrom lastBelow keep firstLeast checkFrom allSets awakeSlots runsFrom
     volumeIf volumeInside overloaded overloadEndingAt shownOverload isSkeleton skeletons leastOf leastSkeleton mostFrom workable
     helps wakeable nextWake wokenIn woken wakeAll extended earliest fillBy tableOf sleepRule tableFrom planTable
     figuresOf planned earlyAnswer planBy plan
-starred-plans = refl
+starred-plans = all-right starred refl refl

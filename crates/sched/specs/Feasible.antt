@@ -6,6 +6,7 @@ use mathlib.Core.Logic.{_⊎_}
 use lib.ListN.{length, getD}
 use Rattle.sched.specs.Jobs.{Jobs, count, release, deadline, volume}
 use Rattle.sched.specs.Slots.{times, idle, asleep}
+pub mod Laws
 
 -- "It may run in slots r to d−1."
 pub record OwnSlot (J : Jobs) (j t : ℕ) : Type 0 where

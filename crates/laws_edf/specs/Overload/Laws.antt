@@ -90,5 +90,13 @@ module _ (J : Jobs) where
   pub shown-none : shownOverload J ≡ none → (a b : ℕ) → overloaded J a b ≡ false
   shown-none e a b = not-overfull a b ((subst (ShowsAll J) e shows) a b)
 
+  -- an overloaded interval: so one is shown
+  pub some-shown : (a b : ℕ) → Overfull J a b → (i : Interval) × (shownOverload J ≡ some i)
+  some-shown a b over = go (shownOverload J) refl
+    where
+      go : (o : Option Interval) → shownOverload J ≡ o → (i : Interval) × (shownOverload J ≡ some i)
+      go none e = absurd ((subst (ShowsAll J) e shows) a b over)
+      go (some i) e = (i, e)
+
   pub shown-some : (i : Interval) → shownOverload J ≡ some i → Shown J i
   shown-some i e = subst (ShowsAll J) e shows

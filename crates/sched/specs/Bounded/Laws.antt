@@ -179,6 +179,16 @@ unfolding sumBelow
 sum-zero zero f h = refl
 sum-zero (suc n) f h = omega (arith, sum-zero n f (λ i l. h i (omega arith)), h n (omega arith))
 
+-- no term is more than the sum
+pub sum-term : (n : ℕ) (f : ℕ → ℕ) (j : ℕ) → j < n → f j ≤ sumBelow n f
+unfolding sumBelow
+sum-term zero f j l = absurd (omega arith)
+sum-term (suc n) f j l = go (lt-suc l) (sum-term n f j)
+  where
+    go : (j < n) ⊎ (j ≡ n) → (j < n → f j ≤ sumBelow n f) → f j ≤ sumBelow n f + f n
+    go (inl m) ih = omega (arith, ih m)
+    go (inr q) ih = omega (arith, ap f q)
+
 -- the first term taken off a sum
 pub sum-first : (n : ℕ) (f : ℕ → ℕ) → sumBelow (suc n) f ≡ f 0 + sumBelow n (λ i. f (suc i))
 unfolding sumBelow
