@@ -34,7 +34,8 @@ pub record CallPromise (list lent-table lent-block : List ℕ) (r : ℕ) (table�
   pub rivals : (J : Jobs) → J .start ≡ false → Passes J → list ≡ spelling J → J .horizon ≤ length lent-table → blockLength ≤ length lent-block → AgainstRivals J (asCall r block′) (take (J .horizon) table′)
   -- the same for bytes that the reader takes, which spell the list that it reads
   pub rivals-of-bytes : bytesCheck list ≡ Passed → listOf list .horizon ≤ length lent-table → blockLength ≤ length lent-block → AgainstRivals (listOf list) (asCall r block′) (take (listOf list .horizon) table′)
-  -- "added counts the slots woken in step 3, and equals the sum of volumes less the skeleton's workable volume": so does the block's fourth
-  -- number, whenever 0 comes back
+  -- "added counts the slots woken in step 3, and equals the sum of volumes less the skeleton's workable volume": whenever 0 comes back, this
+  -- holds of the block's fourth number
   pub added : (J : Jobs) → J .start ≡ false → Passes J → list ≡ spelling J → r ≡ 0 → CountsWoken J (numberIn block′ 3)
+  -- the same for any bytes: 0 comes back only where they were read and both buffers are long enough
   pub added-of-bytes : r ≡ 0 → CountsWoken (listOf list) (numberIn block′ 3)
