@@ -1,9 +1,9 @@
 -- 01, "Plans worked by hand": the third plan as the judge sees it, with its two runs, and a table with a fault of each kind at one slot.
 -- Closed cases, so that an edit of a definition is refused here.
-use Prim.Native.Nat.{ℕ}
 use mathlib.Core.Path.{_≡_, refl}
-use mathlib.Core.List.{List, [], _∷_}
+use mathlib.Core.List.{[], _∷_}
 use Rattle.sched.specs.Jobs.{Jobs, jobsOf}
+use Rattle.sched.specs.Cases.{third, thirdTable}
 use Rattle.sched.specs.Checks.{checkFrom}
 use Rattle.sched.specs.Slots.{times, awakeOf}
 use Rattle.sched.specs.Energy.{awakeSlots, runsFrom}
@@ -12,13 +12,6 @@ use Rattle.judge.specs.declared.Judged.the-variants.{Accepted, Refused}
 use Rattle.judge.specs.Faults.{slotsFrom, rareFrom, faultsBy}
 use Rattle.judge.specs.Verdict.{judged}
 use Rattle.sched.specs.Runs.{leading, runListFrom, runList}
-
--- H 10, q 3, (0,3,1) (8,10,2) (0,10,5)
-abbrev third : Jobs
-third = jobsOf 10 3 (0 ∷ 8 ∷ 0 ∷ []) (3 ∷ 10 ∷ 10 ∷ []) (1 ∷ 2 ∷ 5 ∷ [])
-
-abbrev thirdTable : List ℕ
-thirdTable = 0 ∷ 2 ∷ 2 ∷ 2 ∷ 2 ∷ 2 ∷ 255 ∷ 255 ∷ 1 ∷ 1 ∷ []
 
 pub third-accepted : judged third thirdTable ≡ Accepted (record { energy = 14; awake = 8; runs = 2 })
 unfolding judged faultsBy slotsFrom rareFrom checkFrom times awakeSlots runsFrom

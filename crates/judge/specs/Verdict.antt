@@ -1,13 +1,15 @@
 -- 01, "From list to table", last paragraph: the judge's answer for every list and table, and the number and values of each case.
-use Prim.Native.Nat.{ℕ}
+use Prim.Native.Nat.{ℕ, _≤_}
 use mathlib.Core.Path.{_≡_}
 use mathlib.Core.Bool.{false}
 use mathlib.Core.List.{List, [], _∷_}
 use lib.ListN.{length, take}
 use Rattle.sched.specs.Jobs.{Jobs}
 use Rattle.sched.specs.Refusals.{number, place}
-use Rattle.sched.specs.Checks.{andThen, lengthCheck, checkOf}
-use Rattle.sched.specs.Energy.{tableFigures}
+use Rattle.sched.specs.Checks.{Passes, andThen, lengthCheck, checkOf}
+use Rattle.sched.specs.Slots.{awakeOf}
+use Rattle.sched.specs.Energy.{tableFigures, awakeSlots, runs, energy}
+use Rattle.sched.specs.Feasible.{Feasible}
 use Rattle.sched.specs.declared.Checked.{Checked}
 use Rattle.sched.specs.declared.Checked.the-variants.{Passed, Refused as Faulty}
 use Rattle.sched.specs.declared.Figures.{Figures}
@@ -40,11 +42,20 @@ abbrev pub judgedValues : Judged → List ℕ
 judgedValues (Accepted f) = f .energy ∷ f .awake ∷ f .runs ∷ []
 judgedValues (Refused r) = place r ∷ []
 
--- the promise: the number and the values that come back are those of the definition, and so is the case
+-- an answer is just to the H bytes that were judged: they are accepted exactly when they are a feasible schedule, and then their energy, awake
+-- slots and runs are told
+pub record Just (J : Jobs) (slots : List ℕ) (answer : Judged) : Type 0 where
+  pub accepted-feasible : judgedNumber answer ≡ 0 → Feasible J slots
+  pub feasible-accepted : Feasible J slots → judgedNumber answer ≡ 0
+  pub figures : judgedNumber answer ≡ 0 → judgedValues answer ≡ energy J (awakeOf slots) ∷ awakeSlots (awakeOf slots) ∷ runs (awakeOf slots) ∷ []
+
+-- the promise: the number and the values that come back are those of the definition, and so is the case; and the answer is just, for a list
+-- that passes the list checks and a table of at least H bytes
 pub record Judges (J : Jobs) (table : List ℕ) (answer : Judged) : Type 0 where
   pub number : judgedNumber answer ≡ judgedNumber (judged J table)
   pub values : judgedValues answer ≡ judgedValues (judged J table)
   pub same : answer ≡ judged J table
+  pub just : Passes J → J .horizon ≤ length table → Just J (take (J .horizon) table) answer
 
 -- what is promised of a table of just H bytes, for every list with these fields and this wake cost
 abbrev pub JudgesSlots : ℕ → List ℕ → List ℕ → List ℕ → List ℕ → Judged → Type 0

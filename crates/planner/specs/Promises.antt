@@ -25,7 +25,7 @@ pub record PlanPromise (J : Jobs) (lent : List ℕ) (answer : Outcome) (table : 
   pub values : outcomeValues answer ≡ outcomeValues ((plan J lent) .answer)
   pub bytes : table ≡ (plan J lent) .table
   pub rivals : Passes J → J .horizon ≤ length lent → AgainstRivals J (asOutcome answer) (take (J .horizon) table)
-  pub added : Passes J → J .horizon ≤ length lent → (f : PlanFigures) → answer ≡ Planned f → CountsWoken J (f .added)
+  pub added : (f : PlanFigures) → answer ≡ Planned f → CountsWoken J (f .added)
 
 -- what steps 2 to 5 hand to `plan`: a table of just H bytes, and its figures
 pub record Stepped (J : Jobs) (figures : PlanFigures) (table : List ℕ) : Type 0 where

@@ -2,8 +2,10 @@
 use mathlib.Core.Path.{_≡_, refl}
 use mathlib.Core.List.{[], _∷_}
 use Rattle.sched.specs.Bounded.{keep}
+use Rattle.sched.specs.Cases.{third, thirdTable}
 use Rattle.record.specs.Record.{bits, mapFrom, recordOf, recordBytes}
 
-pub third-record : recordBytes 10 (0 ∷ 2 ∷ 2 ∷ 2 ∷ 2 ∷ 2 ∷ 255 ∷ 255 ∷ 1 ∷ 1 ∷ []) ≡ 0x0A ∷ 0x00 ∷ 0x3F ∷ 0x03 ∷ 0x00 ∷ 0x02 ∷ 0x02 ∷ 0x02 ∷ 0x02 ∷ 0x02 ∷ 0x01 ∷ 0x01 ∷ []
+-- "Its plan record is"
+pub third-record : recordBytes (third .horizon) thirdTable ≡ 0x0A ∷ 0x00 ∷ 0x3F ∷ 0x03 ∷ 0x00 ∷ 0x02 ∷ 0x02 ∷ 0x02 ∷ 0x02 ∷ 0x02 ∷ 0x01 ∷ 0x01 ∷ []
 unfolding recordOf mapFrom bits keep
 third-record = refl

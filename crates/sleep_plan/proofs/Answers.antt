@@ -1,4 +1,4 @@
--- The numbers in the block, and demand 3 in terms of them.
+-- The numbers in the block, and demand 3 and what `added` counts in terms of them.
 use Prim.Native.Nat.{ℕ, _≤_, _<_}
 use mathlib.Core.Path.{_≡_, refl, sym, ap, subst, _∙_}
 use mathlib.Core.List.{List, _++_}
@@ -9,14 +9,16 @@ use lib.Dec.{leb}
 use Rattle.sched.specs.Bounded.Laws.{by-bool}
 use Rattle.sched.specs.Jobs.{Jobs}
 use Rattle.sched.specs.Refusals.{place}
+use Rattle.sched.specs.Refusals.Laws.{refusal-number}
 use Rattle.sched.specs.Checks.{Passes}
 use Rattle.sched.specs.Checks.Laws.{passes-passed}
 use Rattle.sched.specs.Outcomes.{Plan, planned, plan, outcomeNumber, outcomeValues}
 use Rattle.sched.specs.Outcomes.Laws.{early-short, plan-ended}
 use Rattle.sched.specs.declared.Refusal.the-variants.{TooShort}
+use Rattle.sched.specs.declared.PlanFigures.{PlanFigures}
 use Rattle.sched.specs.declared.Outcome.{Outcome}
 use Rattle.sched.specs.declared.Outcome.the-variants.{Planned, Overloaded, Refused}
-use Rattle.laws_rivals.specs.Rivals.{AgainstRivals, asOutcome}
+use Rattle.laws_rivals.specs.Rivals.{AgainstRivals, asOutcome, CountsWoken}
 use Rattle.sleep_plan.specs.Block.{answerBytes, numberIn}
 use Rattle.sleep_plan.specs.Block.Laws.{tooLarge, Small, one-number, two-numbers, four-numbers}
 use Rattle.sleep_plan.specs.Puts.{Puts, FiguresFit}
@@ -84,3 +86,10 @@ against J (Overloaded i) table lent block′ n a puts back =
       limit = λ reported e. zero-not-18 n (e .0) (puts .returned);
     }
 against J (Refused r) table lent block′ n a puts back = absurd (a .sound .otherwise (λ x. x) .reported)
+
+-- what a plan says of `added` holds of the fourth number of a block that tells it
+pub counts : (J : Jobs) (o : Outcome) (block′ : List ℕ) → ((f : PlanFigures) → o ≡ Planned f → CountsWoken J (f .added)) →
+    numberIn block′ 3 ≡ getD (outcomeValues o) 3 0 → outcomeNumber o ≡ 0 → CountsWoken J (numberIn block′ 3)
+counts J (Planned f) block′ counted back z = subst (CountsWoken J) (sym back) (counted f refl)
+counts J (Overloaded i) block′ counted back z = absurd (omega arith)
+counts J (Refused r) block′ counted back z = absurd (refusal-number r z)

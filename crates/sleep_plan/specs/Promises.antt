@@ -1,4 +1,5 @@
--- What `sleep_plan` promises: the equations for everything that a call gives back, and demand 3 in terms of what a caller in C sees.
+-- What `sleep_plan` promises: the equations for everything that a call gives back; demand 3, and what `added` counts, in terms of what a caller
+-- in C sees.
 use Prim.Native.Nat.{ℕ, _≤_, _<_}
 use mathlib.Core.Path.{_≡_}
 use mathlib.Core.Bool.{false}
@@ -7,7 +8,7 @@ use lib.ListN.{length, getD, take}
 use Rattle.sched.specs.Jobs.{Jobs}
 use Rattle.sched.specs.Checks.{Passes}
 use Rattle.sched.specs.declared.Checked.the-variants.{Passed}
-use Rattle.laws_rivals.specs.Rivals.{Answered, AgainstRivals}
+use Rattle.laws_rivals.specs.Rivals.{Answered, AgainstRivals, CountsWoken}
 use Rattle.joblist.specs.Bytes.{spelling}
 use Rattle.joblist.specs.Reading.{listOf}
 use Rattle.sleep_plan.specs.Block.{blockLength, numberIn}
@@ -33,3 +34,8 @@ pub record CallPromise (list lent-table lent-block : List ℕ) (r : ℕ) (table�
   pub rivals : (J : Jobs) → J .start ≡ false → Passes J → list ≡ spelling J → J .horizon ≤ length lent-table → blockLength ≤ length lent-block → AgainstRivals J (asCall r block′) (take (J .horizon) table′)
   -- the same for bytes that the reader takes, which spell the list that it reads
   pub rivals-of-bytes : bytesCheck list ≡ Passed → listOf list .horizon ≤ length lent-table → blockLength ≤ length lent-block → AgainstRivals (listOf list) (asCall r block′) (take (listOf list .horizon) table′)
+  -- "added counts the slots woken in step 3, and equals the sum of volumes less the skeleton's workable volume": whenever 0 comes back, this
+  -- holds of the block's fourth number
+  pub added : (J : Jobs) → J .start ≡ false → Passes J → list ≡ spelling J → r ≡ 0 → CountsWoken J (numberIn block′ 3)
+  -- the same for any bytes: 0 comes back only where they were read and both buffers are long enough
+  pub added-of-bytes : r ≡ 0 → CountsWoken (listOf list) (numberIn block′ 3)

@@ -5,7 +5,8 @@ use lib.ListN.{length-take}
 use lib.Seq.{length-take-le}
 use Rattle.sched.specs.Jobs.{jobsOf}
 use Rattle.sched.specs.Checks.Laws.{passes, length-good}
-use Rattle.judge.specs.Verdict.Laws.{list-refused, table-refused, slots-judged, passes-sized}
+use Rattle.judge.specs.Verdict.Laws.{passes-sized}
+use Rattle.judge.proofs.Answers.{list-refused, table-refused, slots-judged}
 use borrow.Author.Needs.{needs}
 use Rattle.judge.proofs.judge.Statement.{statement}
 use Rattle.judge.proofs.judge.Tie as tie

@@ -1,21 +1,45 @@
 -- The two ways through `plan`: an answer before any step, or the steps.
-use Prim.Native.Nat.{ℕ}
+use Prim.Native.Nat.{ℕ, _≤_}
 use mathlib.Core.Path.{_≡_, refl, sym, ap, subst, _∙_}
 use mathlib.Core.List.{List, _++_}
 use mathlib.Core.Option.{none, some}
 use lib.ListN.{length, drop}
 use Rattle.sched.specs.Jobs.{Jobs}
+use Rattle.sched.specs.Refusals.Laws.{refusal-number}
+use Rattle.sched.specs.Checks.{Passes, lengthCheck, checkOf}
+use Rattle.sched.specs.Checks.Laws.{passed-passes, length-good}
 use Rattle.sched.specs.Steps.{planTable}
-use Rattle.sched.specs.Outcomes.{Plan, earlyAnswer, planned, plan}
-use Rattle.sched.specs.Outcomes.Laws.{plan-ended, plan-goes-on}
+use Rattle.sched.specs.Outcomes.{Plan, earlyAnswer, planned, plan, outcomeNumber}
+use Rattle.sched.specs.Outcomes.Laws.{early-faulty, early-length, plan-ended, plan-goes-on}
+use Rattle.sched.specs.declared.Checked.{Checked}
+use Rattle.sched.specs.declared.Checked.the-variants.{Passed, Refused as Faulty}
+use Rattle.sched.specs.declared.Refusal.{Refusal}
 use Rattle.sched.specs.declared.PlanFigures.{PlanFigures}
 use Rattle.sched.specs.declared.Outcome.{Outcome}
-use Rattle.sched.specs.declared.Outcome.the-variants.{Planned}
+use Rattle.sched.specs.declared.Outcome.the-variants.{Planned, Refused}
 use Rattle.laws_rivals.specs.Theorems.{demand-three, added-counts}
 use Rattle.planner.specs.Promises.{PlanPromise, Stepped}
 
 abbrev result : Outcome → List ℕ → Plan
 result answer table = record { answer = answer; table = table }
+
+-- a plan is made only of a list that passes the checks, and only on a table that is long enough
+module _ (J : Jobs) (lent : List ℕ) (z : outcomeNumber ((plan J lent) .answer) ≡ 0) where
+  not-refused : {A : Type 0} (r : Refusal) → earlyAnswer J (length lent) ≡ some (Refused r) → A
+  unfolding plan
+  not-refused r e =
+      absurd (refusal-number r (sym (ap (λ (x : Plan). outcomeNumber (x .answer)) (plan-ended planned J lent (Refused r) e)) ∙ z))
+
+  by-table : (c : Checked) → checkOf J ≡ Passed → lengthCheck (length lent) (J .horizon) ≡ c → J .horizon ≤ length lent
+  by-table (Faulty r) e l = not-refused r (early-length J (length lent) r e l)
+  by-table Passed e l = length-good (length lent) (J .horizon) l
+
+  by-list : (c : Checked) → checkOf J ≡ c → Passes J × (J .horizon ≤ length lent)
+  by-list (Faulty r) e = not-refused r (early-faulty J (length lent) r e)
+  by-list Passed e = (passed-passes J e, by-table (lengthCheck (length lent) (J .horizon)) e refl)
+
+  plan-checked : Passes J × (J .horizon ≤ length lent)
+  plan-checked = by-list (checkOf J) refl
 
 -- the plan of 01 keeps the promise
 plan-promised : (J : Jobs) (lent : List ℕ) → PlanPromise J lent ((plan J lent) .answer) ((plan J lent) .table)
@@ -25,7 +49,7 @@ plan-promised J lent = record {
   values = refl;
   bytes = refl;
   rivals = λ p m. demand-three J lent p m;
-  added = λ p m f e. added-counts J lent f p m e;
+  added = λ f e. let (p, m) = plan-checked J lent (ap outcomeNumber e) in added-counts J lent f p m e;
 }
 
 by-plan : (J : Jobs) (lent : List ℕ) (answer : Outcome) (table : List ℕ) → plan J lent ≡ result answer table → PlanPromise J lent answer table

@@ -112,10 +112,9 @@ returns-3 c =
     let r = was-read known in
     let a = start r .args in
     let l = read-list (a .list .now) _ _ _ _ _ _ _ (r .read .ensures) _ (known .before .read2 .given .1) in
-    let p = planned .plan .ensures in
     promise-planned (a .list .now) (a .table .now) (a .block .now) _ _ _ _ _
-    (λ i. omega (arith, tested r .before .before .before .shared-slice-known .given i)) (tested r .if1 .left) (l .passed) (l .jobs) (p .same)
-    (p .bytes) (p .rivals) (c .before .before .put-outcome .ensures)
+    (λ i. omega (arith, tested r .before .before .before .shared-slice-known .given i)) (tested r .if1 .left) (l .passed) (l .jobs)
+    (planned .plan .ensures) (c .before .before .put-outcome .ensures)
 
 pub sleep-plan-spec : {M : Type 1} → statement M
 sleep-plan-spec =
