@@ -27,11 +27,15 @@ record Job : Type 0 where
   d : ℕ
   p : ℕ
 
-job : ℕ → ℕ → ℕ → Job
+abbrev job : ℕ → ℕ → ℕ → Job
 job r d p = record { r = r; d = d; p = p }
 
-jobs : ℕ → ℕ → List Job → Jobs
+abbrev jobs : ℕ → ℕ → List Job → Jobs
 jobs h q js = jobsOf h q (map (λ x. x .r) js) (map (λ x. x .d) js) (map (λ x. x .p) js)
+
+-- the list of the third plan, of which 01 also gives the bytes
+abbrev pub third : Jobs
+third = jobs 10 3 (job 0 3 1 ∷ job 8 10 2 ∷ job 0 10 5 ∷ [])
 
 -- a worked plan: the slots of the skeleton, the slots woken in order, the table, the number returned and the values with it. Of an overloaded
 -- list 01 gives only the last two, and the table stays as it was lent, here H bytes of 7
@@ -88,7 +92,7 @@ starred =
     (255 ∷ 255 ∷ 0 ∷ 0 ∷ 254 ∷ 254 ∷ 1 ∷ 1 ∷ 255 ∷ 255 ∷ 255 ∷ 255 ∷ []) (9 ∷ 6 ∷ 1 ∷ 4 ∷ [])
     ∷ plans (jobs 12 1 (job 0 4 2 ∷ job 6 10 2 ∷ [])) (4 ∷ 5 ∷ []) (3 ∷ 2 ∷ 6 ∷ 7 ∷ [])
     (255 ∷ 255 ∷ 0 ∷ 0 ∷ 254 ∷ 254 ∷ 1 ∷ 1 ∷ 255 ∷ 255 ∷ 255 ∷ 255 ∷ []) (7 ∷ 6 ∷ 1 ∷ 4 ∷ [])
-    ∷ plans (jobs 10 3 (job 0 3 1 ∷ job 8 10 2 ∷ job 0 10 5 ∷ [])) (3 ∷ 9 ∷ []) (2 ∷ 1 ∷ 0 ∷ 4 ∷ 5 ∷ 8 ∷ [])
+    ∷ plans third (3 ∷ 9 ∷ []) (2 ∷ 1 ∷ 0 ∷ 4 ∷ 5 ∷ 8 ∷ [])
     (0 ∷ 2 ∷ 2 ∷ 2 ∷ 2 ∷ 2 ∷ 255 ∷ 255 ∷ 1 ∷ 1 ∷ []) (14 ∷ 8 ∷ 2 ∷ 6 ∷ [])
     ∷ plans (jobs 8 2 (job 2 5 3 ∷ [])) (5 ∷ []) (4 ∷ 3 ∷ 2 ∷ [])
     (255 ∷ 255 ∷ 0 ∷ 0 ∷ 0 ∷ 254 ∷ 255 ∷ 255 ∷ []) (6 ∷ 4 ∷ 1 ∷ 3 ∷ [])
@@ -102,7 +106,7 @@ starred =
 
 -- the definitions give each row of the table from its list
 pub starred-plans : map (λ w. found (w .list)) starred ≡ starred
-unfolding job jobs members skeletonFor orderFor found plans overloads starred
+unfolding members skeletonFor orderFor found plans overloads starred
     total anyBelow allBelow sumBelow maxBelow leastFrom lastBelow keep firstLeast checkFrom allSets awakeSlots runsFrom
     volumeIf volumeInside overloaded overloadEndingAt shownOverload isSkeleton skeletons leastOf leastSkeleton mostFrom workable
     helps wakeable nextWake wokenIn woken wakeAll extended earliest fillBy tableOf sleepRule tableFrom planTable
