@@ -49,4 +49,4 @@ module _ {h : ℕ} {rs ds ps : List ℕ} (p : AllPass h rs ds ps) where
       asked = record { J = jobsFrom h 0 false rs ds ps; lists = lists 0 false; orders = in-front }
 
       pub found : {answer : Shown} → Answers h rs ds ps answer → Found h rs ds ps answer (ranks′ ++ drop (length rs) ranks) (arrivals′ ++ drop (length rs) arrivals)
-      found answers = record { shown = λ q start. answers (jobsFrom h q start rs ds ps) (lists q start) refl; orders = in-front }
+      found answers = record { shown = λ q start. answers (jobsFrom h q start rs ds ps) (lists q start) refl .same; orders = in-front }

@@ -4,10 +4,11 @@
 use Prim.Native.Nat.{ℕ, zero, suc, _≤_, _<_}
 use mathlib.Core.Path.{_≡_}
 use mathlib.Core.Bool.{Bool, true, false, not, _&&_}
-use mathlib.Core.List.{List}
+use mathlib.Core.List.{List, [], _∷_}
 use lib.ListN.{length, getD}
 use lib.Dec.{leb, ltb, eqb}
 use Rattle.sched.specs.Jobs.{Jobs, count, release, deadline, volume}
+use Rattle.sched.specs.Refusals.{number, place}
 use Rattle.sched.specs.declared.Refusal.{Refusal}
 use Rattle.sched.specs.declared.Refusal.the-variants.{OutOfRange, BadJob, TooShort, Unequal, BadByte}
 use Rattle.sched.specs.declared.Checked.{Checked}
@@ -101,3 +102,18 @@ listCheck h rs ds ps = andThen (horizonCheck h) (listsCheck h rs ds ps)
 -- the same of a list, as planner, judge and list writer are lent it
 abbrev pub checkOf : Jobs → Checked
 checkOf J = listCheck (J .horizon) (J .releases) (J .deadlines) (J .volumes)
+
+-- a refusal has 01's number with its place; that a check which passes has the number 0, with no value, is ours
+abbrev pub checkedNumber : Checked → ℕ
+checkedNumber Passed = 0
+checkedNumber (Refused r) = number r
+
+abbrev pub checkedValues : Checked → List ℕ
+checkedValues Passed = []
+checkedValues (Refused r) = place r ∷ []
+
+-- the promise of a check: the number and the values that come back are those of the definition, and so is the case
+pub record CheckPromise (wanted answer : Checked) : Type 0 where
+  pub number : checkedNumber answer ≡ checkedNumber wanted
+  pub values : checkedValues answer ≡ checkedValues wanted
+  pub same : answer ≡ wanted

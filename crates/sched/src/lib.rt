@@ -7,7 +7,7 @@ ghost use Prim.Native.Nat.{_-_, _≤_};
 ghost use lib.ListN.{length, take, drop};
 ghost use Rattle.sched.specs.Jobs.{Jobs};
 ghost use Rattle.sched.specs.Energy.{tableFigures};
-ghost use Rattle.sched.specs.Checks.{horizonCheck, lengthCheck, tableCheck, bytesFrom, slotsCheck, jobCheck, jobsCheck, countCheck, listsCheck, listCheck};
+ghost use Rattle.sched.specs.Checks.{CheckPromise, horizonCheck, lengthCheck, tableCheck, bytesFrom, slotsCheck, jobCheck, jobsCheck, countCheck, listsCheck, listCheck};
 
 // The bytes of a table that are no job numbers.
 pub const IDLE: u8 = 254;
@@ -118,7 +118,7 @@ impl Refusal {
 
 // 12 for a horizon.
 pub fn check_horizon(h: u16) -> Checked
-    ensures { λ c. ⌜ c ≡ horizonCheck h ⌝ }
+    ensures { λ c. ⌜ CheckPromise (horizonCheck h) c ⌝ }
 {
     if h == 0 {
         return Checked::Refused(Refusal::OutOfRange(0));
@@ -131,7 +131,7 @@ pub fn check_horizon(h: u16) -> Checked
 
 // 12 for a number of jobs.
 pub fn check_count(n: usize) -> Checked
-    ensures { λ c. ⌜ c ≡ countCheck n ⌝ }
+    ensures { λ c. ⌜ CheckPromise (countCheck n) c ⌝ }
 {
     if 64 < n {
         return Checked::Refused(Refusal::OutOfRange(4));
@@ -141,7 +141,7 @@ pub fn check_count(n: usize) -> Checked
 
 // 17 for what is lent.
 pub fn check_length(have: usize, need: usize) -> Checked
-    ensures { λ c. ⌜ c ≡ lengthCheck have need ⌝ }
+    ensures { λ c. ⌜ CheckPromise (lengthCheck have need) c ⌝ }
 {
     if have < need {
         return Checked::Refused(Refusal::TooShort(need));
@@ -151,7 +151,7 @@ pub fn check_length(have: usize, need: usize) -> Checked
 
 // 12 and 17 for a table that comes without a list.
 pub fn check_table(h: u16, have: usize) -> Checked
-    ensures { λ c. ⌜ c ≡ tableCheck h have ⌝ }
+    ensures { λ c. ⌜ CheckPromise (tableCheck h have) c ⌝ }
 {
     match check_horizon(h) {
         Checked::Passed => check_length(have, h as usize),
@@ -162,7 +162,7 @@ pub fn check_table(h: u16, have: usize) -> Checked
 // 21 for the slots from one up to but without another, in a table that comes without a list.
 pub fn check_bytes(table: &[u8], from: usize, to: usize) -> Checked
     requires { ⌜ (from ≤ to) × (to ≤ length (now table)) ⌝ }
-    ensures { λ c. ⌜ c ≡ bytesFrom (to - from) from (now (table .entry)) ⌝ }
+    ensures { λ c. ⌜ CheckPromise (bytesFrom (to - from) from (now (table .entry))) c ⌝ }
 {
     let mut t = from;
     while t < to {
@@ -179,7 +179,7 @@ pub fn check_bytes(table: &[u8], from: usize, to: usize) -> Checked
 
 // 12, 17 and 21 for a table that comes without a list.
 pub fn check_slots(h: u16, table: &[u8]) -> Checked
-    ensures { λ c. ⌜ c ≡ slotsCheck h (now (table .entry)) ⌝ }
+    ensures { λ c. ⌜ CheckPromise (slotsCheck h (now (table .entry))) c ⌝ }
 {
     match check_table(h, table.len()) {
         Checked::Passed => check_bytes(table, 0, h as usize),
@@ -189,7 +189,7 @@ pub fn check_slots(h: u16, table: &[u8]) -> Checked
 
 // The check of one job; the list reader makes it too, at the job that it has just read.
 pub fn check_job(h: u16, job: usize, r: u16, d: u16, p: u16) -> Checked
-    ensures { λ c. ⌜ c ≡ jobCheck h job r d p ⌝ }
+    ensures { λ c. ⌜ CheckPromise (jobCheck h job r d p) c ⌝ }
 {
     if d <= r {
         return Checked::Refused(Refusal::BadJob(job));
@@ -240,7 +240,7 @@ fn check_lists(h: u16, releases: &[u16], deadlines: &[u16], volumes: &[u16]) -> 
 
 // The list checks, in the order in which planner, judge and list writer make them.
 pub fn check_list(h: u16, releases: &[u16], deadlines: &[u16], volumes: &[u16]) -> Checked
-    ensures { λ c. ⌜ c ≡ listCheck h (now (releases .entry)) (now (deadlines .entry)) (now (volumes .entry)) ⌝ }
+    ensures { λ c. ⌜ CheckPromise (listCheck h (now (releases .entry)) (now (deadlines .entry)) (now (volumes .entry))) c ⌝ }
 {
     match check_horizon(h) {
         Checked::Passed => check_lists(h, releases, deadlines, volumes),

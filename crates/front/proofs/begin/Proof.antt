@@ -27,7 +27,7 @@ order-and-find-requires c κs =
     let listed = long .before .before .before in
     let s = start listed in (
       checked (s .args .h) (s .args .releases .now) (s .args .deadlines .now) (s .args .volumes .now) (s .args .have) (s .args .ranks .now) (s .args .arrivals .now)
-          (sym (listed .check-list .ensures) ∙ long .before .enum-told .given .1),
+          (sym (listed .check-list .ensures .same) ∙ long .before .enum-told .given .1),
       s .pre,
     )
 
@@ -54,8 +54,8 @@ returns c =
     let tried = c .before .before .before .before .before .before .before in
     let long = tried .before .before .before .before .before in
     let listed = long .before .before .before in
-    shown-ends _ _ _ _ _ _ _ (sym (listed .check-list .ensures) ∙ long .before .enum-told .given .1)
-    (sym (long .check-length .ensures) ∙ tried .before .before .before .enum-told2 .given .1) _ (tried .order-and-find .ensures) _ (c .before .i .given .1)
+    shown-ends _ _ _ _ _ _ _ (sym (listed .check-list .ensures .same) ∙ long .before .enum-told .given .1)
+    (sym (long .check-length .ensures .same) ∙ tried .before .before .before .enum-told2 .given .1) _ (tried .order-and-find .ensures) _ (c .before .i .given .1)
 
 same-length-3 : tie.Need-same-length-3
 same-length-3 c = search needs
@@ -68,20 +68,20 @@ returns-2 c =
     let tried = c .before .before .before .before .before .before in
     let long = tried .before .before .before .before .before in
     let listed = long .before .before .before in
-    nothing-opens _ _ _ _ _ _ _ (sym (listed .check-list .ensures) ∙ long .before .enum-told .given .1)
-    (sym (long .check-length .ensures) ∙ tried .before .before .before .enum-told2 .given .1) _ (tried .order-and-find .ensures) (c .enum-told3 .given .1)
+    nothing-opens _ _ _ _ _ _ _ (sym (listed .check-list .ensures .same) ∙ long .before .enum-told .given .1)
+    (sym (long .check-length .ensures .same) ∙ tried .before .before .before .enum-told2 .given .1) _ (tried .order-and-find .ensures) (c .enum-told3 .given .1)
 
 returns-3 : tie.Need-returns-3
 returns-3 c =
     let long = c .before .before .before in
     let listed = long .before .before .before in
-    table-refused _ _ _ _ _ _ _ (sym (listed .check-list .ensures) ∙ long .before .enum-told .given .1) _
-    (sym (long .check-length .ensures) ∙ c .before .r .given .1)
+    table-refused _ _ _ _ _ _ _ (sym (listed .check-list .ensures .same) ∙ long .before .enum-told .given .1) _
+    (sym (long .check-length .ensures .same) ∙ c .before .r .given .1)
 
 returns-4 : tie.Need-returns-4
 returns-4 c =
     let listed = c .before .before .before in
-    list-refused _ _ _ _ _ _ _ _ (sym (listed .check-list .ensures) ∙ c .before .r2 .given .1)
+    list-refused _ _ _ _ _ _ _ _ (sym (listed .check-list .ensures .same) ∙ c .before .r2 .given .1)
 
 pub begin-spec : {M : Type 1} → statement M
 begin-spec =

@@ -32,7 +32,7 @@ enum-told c = search needs
 size-requires : tie.Need-size-requires
 size-requires c κs =
     let list = c .before .before in
-    equal-lists (lent list) (list .check-list .result) (list .check-list .ensures) (c .enum-told .given .1)
+    equal-lists (lent list) (list .check-list .result) (list .check-list .ensures .same) (c .enum-told .given .1)
 
 check-length-requires : tie.Need-check-length-requires
 check-length-requires c κs = search needs
@@ -45,9 +45,9 @@ put-requires c κs =
     let room = c .before .before .before in
     let size = room .before in
     let list = size .before .before .before in
-    let fits = length-good (length (out list)) (size .size .result) (sym (room .check-length .ensures) ∙ c .before .enum-told2 .given .1) in
+    let fits = length-good (length (out list)) (size .size .result) (sym (room .check-length .ensures .same) ∙ c .before .enum-told2 .given .1) in
     record {
-      lists = equal-lists (lent list) (list .check-list .result) (list .check-list .ensures) (size .before .enum-told .given .1);
+      lists = equal-lists (lent list) (list .check-list .result) (list .check-list .ensures .same) (size .before .enum-told .given .1);
       room = omega (arith, size .size .ensures, fits);
     }
 
@@ -66,8 +66,8 @@ returns c =
     let room = told .before .before in
     let size = room .before in
     let list = size .before .before .before in
-    write-accepted (lent list) (out list) (size .size .result) (list .check-list .result) (room .check-length .result) (list .check-list .ensures)
-    (size .before .enum-told .given .1) (size .size .ensures) (room .check-length .ensures) _ (told .enum-told2 .given .1)
+    write-accepted (lent list) (out list) (size .size .result) (list .check-list .result) (room .check-length .result) (list .check-list .ensures .same)
+    (size .before .enum-told .given .1) (size .size .ensures) (room .check-length .ensures .same) _ (told .enum-told2 .given .1)
     (c .before .before .put .ensures)
 
 returns-2 : tie.Need-returns-2
@@ -75,13 +75,13 @@ returns-2 c =
     let room = c .before .before .before in
     let size = room .before in
     let list = size .before .before .before in
-    room-refused (lent list) (out list) (size .size .result) (list .check-list .result) (room .check-length .result) (list .check-list .ensures)
-    (size .before .enum-told .given .1) (size .size .ensures) (room .check-length .ensures) _ (c .before .r .given .1)
+    room-refused (lent list) (out list) (size .size .result) (list .check-list .result) (room .check-length .result) (list .check-list .ensures .same)
+    (size .before .enum-told .given .1) (size .size .ensures) (room .check-length .ensures .same) _ (c .before .r .given .1)
 
 returns-3 : tie.Need-returns-3
 returns-3 c =
     let list = c .before .before .before in
-    list-refused (lent list) (out list) _ (list .check-list .result) (list .check-list .ensures) (c .before .r2 .given .1)
+    list-refused (lent list) (out list) _ (list .check-list .result) (list .check-list .ensures .same) (c .before .r2 .given .1)
 
 pub write-spec : {M : Type 1} → statement M
 write-spec =

@@ -25,14 +25,14 @@ enum-told-2 c = search needs
 slice-aggregate-judge-slots : tie.Need-slice-aggregate-judge-slots
 slice-aggregate-judge-slots c =
     let long = c .before .before .before in
-    sym (length-take-le _ _ (length-good _ _ (sym (long .check-length .ensures) ∙ c .before .enum-told2 .given .1)))
+    sym (length-take-le _ _ (length-good _ _ (sym (long .check-length .ensures .same) ∙ c .before .enum-told2 .given .1)))
 
 judge-slots-requires : tie.Need-judge-slots-requires
 judge-slots-requires c κs =
     let listed = c .before .before .before .before .before .before in
     let args = listed .before .before .before .before .before .args in
     let J = jobsOf (args .h) (args .q) (args .releases .now) (args .deadlines .now) (args .volumes .now) in
-    let p = passes J .0 (sym (listed .check-list .ensures) ∙ c .before .before .before .before .enum-told .given .1) in
+    let p = passes J .0 (sym (listed .check-list .ensures .same) ∙ c .before .before .before .before .enum-told .given .1) in
     (passes-sized J p, simp length-take (omega (arith, p .high)))
 
 enum-known-r : tie.Need-enum-known-r
@@ -47,18 +47,18 @@ returns c =
     let listed = long .before .before .before in
     let args = listed .before .before .before .before .before .args in
     let J = jobsOf (args .h) (args .q) (args .releases .now) (args .deadlines .now) (args .volumes .now) in
-    slots-judged J _ (sym (listed .check-list .ensures) ∙ long .before .enum-told .given .1) _
-    (sym (long .check-length .ensures) ∙ c .before .before .enum-told2 .given .1) (c .judge-slots .ensures J refl refl)
+    slots-judged J _ (sym (listed .check-list .ensures .same) ∙ long .before .enum-told .given .1) _
+    (sym (long .check-length .ensures .same) ∙ c .before .before .enum-told2 .given .1) (c .judge-slots .ensures J refl refl)
 
 returns-2 : tie.Need-returns-2
 returns-2 c =
     let long = c .before .before .before in
     let listed = long .before .before .before in
-    table-refused _ _ (sym (listed .check-list .ensures) ∙ long .before .enum-told .given .1) _
-    (sym (long .check-length .ensures) ∙ c .before .r .given .1)
+    table-refused _ _ (sym (listed .check-list .ensures .same) ∙ long .before .enum-told .given .1) _
+    (sym (long .check-length .ensures .same) ∙ c .before .r .given .1)
 
 returns-3 : tie.Need-returns-3
-returns-3 c = list-refused _ _ _ (sym (c .before .before .before .check-list .ensures) ∙ c .before .r2 .given .1)
+returns-3 c = list-refused _ _ _ (sym (c .before .before .before .check-list .ensures .same) ∙ c .before .r2 .given .1)
 
 pub judge-spec : {M : Type 1} → statement M
 judge-spec =

@@ -1,5 +1,5 @@
 -- `plan` meets its contract: an answer before any step, or the steps on the table's first h bytes.
-use mathlib.Core.Path.{_≡_, sym, ap, refl, _∙_}
+use mathlib.Core.Path.{_≡_, sym, refl, _∙_}
 use Prim.Native.Nat.{ℕ, _≤_}
 use mathlib.Core.Bool.{false}
 use mathlib.Core.List.{List}
@@ -11,7 +11,7 @@ use denote.Ref.{now}
 use Rattle.sched.specs.Jobs.{Jobs, jobsOf}
 use Rattle.sched.specs.Outcomes.{earlyAnswer}
 use Rattle.sched.specs.Outcomes.Laws.{early-open}
-use Rattle.front.specs.Early.{earlyOf}
+use Rattle.front.specs.Early.Laws.{ended-some, open-none}
 use Rattle.orders.specs.Fronts.{blank, front-length}
 use Rattle.planner.specs.Promises.Laws.{answered-early, steps-planned}
 use borrow.Author.Needs.{needs}
@@ -33,7 +33,7 @@ abbrev begun : tie.After-enum-told → tie.After-begin
 begun c = c .before .before .before .before
 
 open-yet : (c : tie.After-enum-told) → earlyAnswer (listed (start (begun c))) (length (now (start (begun c) .args .table))) ≡ none
-open-yet c = sym (begun c .begin .ensures .same _ false) ∙ ap earlyOf (c .enum-told .given .1)
+open-yet c = open-none _ (sym (c .enum-told .given .1) ∙ begun c .begin .ensures .early _ false .same)
 
 ranks-fit : (c : tie.After-enum-told) → length (now (start (begun c) .args .releases)) ≤ length (begun c .begin .last .1 .1 .1 .1 .1 .0)
 ranks-fit c = room-left _ (begun c .begin .last .1 .1 .1 .1 .1 .0) (early-open _ _ (open-yet c) .0 .few) (begun c .begin .kept .1 .1 .1 .1 .1 .0)
@@ -88,7 +88,7 @@ steps-requires c κs =
 returns : tie.Need-returns
 returns c =
     let answered = c .before .before .before .before .before in
-    answered-early (listed (start answered)) _ _ (sym (answered .begin .ensures .same _ false) ∙ ap earlyOf (c .before .outcome .given .1))
+    answered-early (listed (start answered)) _ _ (ended-some _ _ (sym (c .before .outcome .given .1) ∙ answered .begin .ensures .early _ false .same))
 
 same-length : tie.Need-same-length
 same-length c = search needs

@@ -19,13 +19,13 @@ slice-aggregate-write-slots : tie.Need-slice-aggregate-write-slots
 slice-aggregate-write-slots c =
     let checked = c .before .before .before in
     let args = checked .before .before .before .args in
-    sym (length-take-le _ _ (slots-good (args .h) (args .table .now) (sym (checked .check-slots .ensures) ∙ c .before .enum-told .given .1) .1))
+    sym (length-take-le _ _ (slots-good (args .h) (args .table .now) (sym (checked .check-slots .ensures .same) ∙ c .before .enum-told .given .1) .1))
 
 write-slots-requires : tie.Need-write-slots-requires
 write-slots-requires c κs =
     let checked = c .before .before .before .before in
     let args = checked .before .before .before .args in
-    let good = slots-good (args .h) (args .table .now) (sym (checked .check-slots .ensures) ∙ c .before .before .enum-told .given .1) in
+    let good = slots-good (args .h) (args .table .now) (sym (checked .check-slots .ensures .same) ∙ c .before .before .enum-told .given .1) in
     simp length-take (omega (arith, good .0))
 
 enum-known-r : tie.Need-enum-known-r
@@ -37,10 +37,10 @@ same-length c = search needs
 returns : tie.Need-returns
 returns c =
     let passed = c .before .before .before .before .before in
-    table-passed _ _ _ _ _ (sym (passed .before .before .check-slots .ensures) ∙ passed .enum-told .given .1) (c .before .before .write-slots .ensures)
+    table-passed _ _ _ _ _ (sym (passed .before .before .check-slots .ensures .same) ∙ passed .enum-told .given .1) (c .before .before .write-slots .ensures)
 
 returns-2 : tie.Need-returns-2
-returns-2 c = table-refused _ _ _ _ (sym (c .before .before .before .check-slots .ensures) ∙ c .before .r .given .1)
+returns-2 c = table-refused _ _ _ _ (sym (c .before .before .before .check-slots .ensures .same) ∙ c .before .r .given .1)
 
 pub write-spec : {M : Type 1} → statement M
 write-spec =

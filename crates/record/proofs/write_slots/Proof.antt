@@ -45,7 +45,7 @@ fill-record-requires c κs =
     let args = tested .before .before .before .before .args in
     let awake = tested .before .count-awake .result in
     let bytes = 2 + mapLength (length (args .slots .now)) + awake in
-    let fits = length-good (length (args .out .now)) bytes (sym (tested .check-length .ensures) ∙ c .before .enum-told .given .1) in
+    let fits = length-good (length (args .out .now)) bytes (sym (tested .check-length .ensures .same) ∙ c .before .enum-told .given .1) in
     record {
       few = tested .before .before .before .before .pre;
       start = refl;
@@ -64,7 +64,7 @@ returns c =
     let counted = passed .before .before .before in
     let args = counted .before .before .before .args in
     room _ _ _ _ (record-size (args .h) (args .slots .now) _ (counted .count-awake .ensures)) _ _
-    (sym (passed .before .before .check-length .ensures) ∙ passed .enum-told .given .1)
+    (sym (passed .before .before .check-length .ensures .same) ∙ passed .enum-told .given .1)
     (counted .count-awake .ensures ∙ ones-of-slots (args .slots .now)) (c .before .before .fill-record .ensures)
 
 returns-2 : tie.Need-returns-2
@@ -72,7 +72,7 @@ returns-2 c =
     let counted = c .before .before .before .before in
     let args = counted .before .before .before .args in
     no-room _ _ _ _ (record-size (args .h) (args .slots .now) _ (counted .count-awake .ensures)) _
-    (sym (c .before .before .before .check-length .ensures) ∙ c .before .r .given .1)
+    (sym (c .before .before .before .check-length .ensures .same) ∙ c .before .r .given .1)
 
 pub write-slots-spec : {M : Type 1} → statement M
 write-slots-spec =

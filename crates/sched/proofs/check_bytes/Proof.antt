@@ -3,6 +3,7 @@ use Prim.Native.Nat.{_≤_, _-_}
 use mathlib.Core.Path.{_≡_, refl}
 use borrow.Author.Needs.{needs}
 use Rattle.sched.specs.Checks.{bytesFrom}
+use Rattle.sched.specs.Checks.Laws.{check-same}
 use Rattle.sched.proofs.Bytes.{bytes-job, bytes-mark, bytes-stop, bytes-end}
 use Rattle.sched.proofs.check_bytes.Statement.{statement}
 use Rattle.sched.proofs.check_bytes.Tie as tie
@@ -41,10 +42,10 @@ loop-again-2 : tie.Need-loop-again-2 Inv-loop μ-loop
 loop-again-2 c = (search needs, bytes-mark _ _ _ _ (c .before .before .before .before .before .loop .inv .1) (c .before .before .before .before .loop-test .taken) (c .before .before .if1 .left) (c .if2 .taken))
 
 returns : tie.Need-returns Inv-loop μ-loop
-returns c = bytes-stop _ _ _ _ (c .before .before .before .before .before .loop .inv .1) (c .before .before .before .before .loop-test .taken) (c .before .before .if1 .left) (c .if2 .left)
+returns c = check-same (bytes-stop _ _ _ _ (c .before .before .before .before .before .loop .inv .1) (c .before .before .before .before .loop-test .taken) (c .before .before .if1 .left) (c .if2 .left))
 
 returns-2 : tie.Need-returns-2 Inv-loop μ-loop
-returns-2 c = bytes-end _ _ _ _ (c .before .loop .inv .1) (c .loop-test .left)
+returns-2 c = check-same (bytes-end _ _ _ _ (c .before .loop .inv .1) (c .loop-test .left))
 
 pub check-bytes-spec : {M : Type 1} → statement M
 check-bytes-spec =

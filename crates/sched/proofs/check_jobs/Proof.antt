@@ -50,13 +50,13 @@ loop-less : tie.Need-loop-less Inv-loop μ-loop
 loop-less c = search needs
 
 loop-again : tie.Need-loop-again Inv-loop μ-loop
-loop-again c = (search needs, check-next _ _ _ _ _ _ _ (c .before .before .before .before .before .before .loop-test .taken) (sym (c .before .before .check-job .ensures) ∙ c .enum-told .given .1) (c .before .before .before .before .before .before .before .loop .inv .1))
+loop-again c = (search needs, check-next _ _ _ _ _ _ _ (c .before .before .before .before .before .before .loop-test .taken) (sym (c .before .before .check-job .ensures .same) ∙ c .enum-told .given .1) (c .before .before .before .before .before .before .before .loop .inv .1))
 
 enum-known-r : tie.Need-enum-known-r Inv-loop μ-loop
 enum-known-r c = search needs
 
 returns : tie.Need-returns Inv-loop μ-loop
-returns c = check-stop _ _ _ _ _ _ _ _ (c .before .before .before .before .before .before .before .loop-test .taken) (sym (c .before .before .before .check-job .ensures) ∙ c .before .r .given .1) (c .before .before .before .before .before .before .before .before .loop .inv .1)
+returns c = check-stop _ _ _ _ _ _ _ _ (c .before .before .before .before .before .before .before .loop-test .taken) (sym (c .before .before .before .check-job .ensures .same) ∙ c .before .r .given .1) (c .before .before .before .before .before .before .before .before .loop .inv .1)
 
 returns-2 : tie.Need-returns-2 Inv-loop μ-loop
 returns-2 c = check-end _ _ _ _ _ _ _ (c .loop-test .left) (c .before .loop .inv .1)

@@ -31,7 +31,7 @@ returns-3 c =
     let args = equal .before .before .before .before .before .args in
     sym
     (lists-equal (args .h) (args .releases .now) (args .deadlines .now) (args .volumes .now) (equal .before .if1 .left) (equal .if2 .left)
-    ∙ then-passes _ _ (sym (counted .check-count .ensures) ∙ c .before .enum-told .given .1) ∙ sym (c .check-jobs .ensures))
+    ∙ then-passes _ _ (sym (counted .check-count .ensures .same) ∙ c .before .enum-told .given .1) ∙ sym (c .check-jobs .ensures))
 
 returns-4 : tie.Need-returns-4
 returns-4 c =
@@ -40,7 +40,7 @@ returns-4 c =
     let args = equal .before .before .before .before .before .args in
     sym
     (lists-equal (args .h) (args .releases .now) (args .deadlines .now) (args .volumes .now) (equal .before .if1 .left) (equal .if2 .left)
-    ∙ then-fails _ _ _ (sym (counted .check-count .ensures) ∙ c .before .r .given .1))
+    ∙ then-fails _ _ _ (sym (counted .check-count .ensures .same) ∙ c .before .r .given .1))
 
 pub check-lists-spec : {M : Type 1} → statement M
 check-lists-spec =

@@ -2,7 +2,7 @@
 use mathlib.Core.Path.{sym, _∙_}
 use native.Mathlib.Omega.{arith}
 use borrow.Author.Needs.{needs}
-use Rattle.sched.specs.Checks.Laws.{then-fails, then-passes, table-good}
+use Rattle.sched.specs.Checks.Laws.{check-same, then-fails, then-passes, table-good}
 use Rattle.sched.proofs.Bytes.{bytes-whole}
 use Rattle.sched.proofs.check_slots.Statement.{statement}
 use Rattle.sched.proofs.check_slots.Tie as tie
@@ -15,7 +15,7 @@ enum-told c = search needs
 
 check-bytes-requires : tie.Need-check-bytes-requires
 check-bytes-requires c κs =
-    (omega arith, table-good _ _ (sym (c .before .before .check-table .ensures) ∙ c .enum-told .given .1) .1)
+    (omega arith, table-good _ _ (sym (c .before .before .check-table .ensures .same) ∙ c .enum-told .given .1) .1)
 
 enum-known-r : tie.Need-enum-known-r
 enum-known-r c = search needs
@@ -23,10 +23,10 @@ enum-known-r c = search needs
 returns : tie.Need-returns
 returns c =
     let tested = c .before .before .before in
-    bytes-whole _ _ _ (c .check-bytes .ensures) ∙ sym (then-passes _ _ (sym (tested .check-table .ensures) ∙ c .before .enum-told .given .1))
+    check-same (bytes-whole _ _ _ (c .check-bytes .ensures .same) ∙ sym (then-passes _ _ (sym (tested .check-table .ensures .same) ∙ c .before .enum-told .given .1)))
 
 returns-2 : tie.Need-returns-2
-returns-2 c = sym (then-fails _ _ _ (sym (c .before .before .before .check-table .ensures) ∙ c .before .r .given .1))
+returns-2 c = check-same (sym (then-fails _ _ _ (sym (c .before .before .before .check-table .ensures .same) ∙ c .before .r .given .1)))
 
 pub check-slots-spec : {M : Type 1} → statement M
 check-slots-spec =

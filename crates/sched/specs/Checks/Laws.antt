@@ -10,11 +10,15 @@ use borrow.Author.Tests.{lt-leb, lt-ltb, le-ltb, eq-eqb, ne-eqb, leb-false, ltb-
 use lib.ListN.{length, getD}
 use lib.Dec.{leb, ltb, eqb}
 use Rattle.sched.specs.Jobs.{Jobs, count}
-use Rattle.sched.specs.Checks.{GoodJob, Passes, refuseIf, andThen, horizonCheck, lengthCheck, tableCheck, bytesFrom, slotsCheck, jobCheck, checkFrom, jobsCheck, countCheck, listsCheck, checkOf}
+use Rattle.sched.specs.Checks.{checkedNumber, checkedValues, CheckPromise, GoodJob, Passes, refuseIf, andThen, horizonCheck, lengthCheck, tableCheck, bytesFrom, slotsCheck, jobCheck, checkFrom, jobsCheck, countCheck, listsCheck, checkOf}
 use Rattle.sched.specs.declared.Refusal.{Refusal}
 use Rattle.sched.specs.declared.Refusal.the-variants.{OutOfRange, BadJob, TooShort, Unequal}
 use Rattle.sched.specs.declared.Checked.{Checked}
 use Rattle.sched.specs.declared.Checked.the-variants.{Passed, Refused}
+
+-- an answer that is the definition's has its number and values
+pub check-same : {wanted answer : Checked} → answer ≡ wanted → CheckPromise wanted answer
+check-same e = record { number = ap checkedNumber e; values = ap checkedValues e; same = e }
 
 pub refused-not-passed : {A : Type 0} (r : Refusal) → _≡_ {A = Checked} (Refused r) Passed → A
 refused-not-passed r e = let z : _≡_ {A = ℕ} 0 1 = cc in absurd (omega arith)

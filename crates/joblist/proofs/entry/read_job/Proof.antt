@@ -29,7 +29,7 @@ returns c =
     let fields = f .before .before in
     let a = fields .before .before .args in
     job-read (a .h) (a .job) (a .at) (a .bytes .now) (fields .read-fields .result) (fields .read-fields .ensures) (f .f .given .0 .0) (f .f .given .1)
-    (job .check-job .result) (job .check-job .ensures) (c .enum-told .given .1)
+    (job .check-job .result) (job .check-job .ensures .same) (c .enum-told .given .1)
 
 returns-2 : tie.Need-returns-2
 returns-2 c =
@@ -39,7 +39,7 @@ returns-2 c =
     let a = fields .before .before .args in
     job-refused (a .h) (a .job) (a .at) (a .bytes .now) (fields .read-fields .result) (fields .read-fields .ensures) (f .f .given .0 .0)
     (f .f .given .1)
-    (job .check-job .result) (job .check-job .ensures) _ (c .before .r .given .1)
+    (job .check-job .result) (job .check-job .ensures .same) _ (c .before .r .given .1)
 
 returns-3 : tie.Need-returns-3
 returns-3 c =

@@ -28,14 +28,14 @@ returns-2 c =
     let horizon = c .before .before .before in
     let header = horizon .before in
     count-decides (header .before .before .before .args .bytes .now) (header .header .result) (header .header .ensures) (header .before .if1 .left)
-    _ (horizon .check-horizon .ensures) _ (c .before .enum-told .given .1) (c .check-count .ensures)
+    _ (horizon .check-horizon .ensures .same) _ (c .before .enum-told .given .1) (c .check-count .ensures .same)
 
 returns-3 : tie.Need-returns-3
 returns-3 c =
     let horizon = c .before .before .before in
     let header = horizon .before in
     horizon-refused (header .before .before .before .args .bytes .now) (header .header .result) (header .header .ensures) (header .before .if1 .left)
-    _ (horizon .check-horizon .ensures) _ (c .before .r .given .1)
+    _ (horizon .check-horizon .ensures .same) _ (c .before .r .given .1)
 
 pub check-header-spec : {M : Type 1} → statement M
 check-header-spec =

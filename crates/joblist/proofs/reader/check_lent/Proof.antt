@@ -30,19 +30,19 @@ returns : tie.Need-returns
 returns c =
     let second = c .before .before .before in
     let first = second .before .before .before in
-    c .check-length3 .ensures
-    ∙ sym (then-passes _ _ (sym (first .check-length .ensures) ∙ second .before .enum-told .given .1)
-    ∙ then-passes _ _ (sym (second .check-length2 .ensures) ∙ c .before .enum-told2 .given .1))
+    c .check-length3 .ensures .same
+    ∙ sym (then-passes _ _ (sym (first .check-length .ensures .same) ∙ second .before .enum-told .given .1)
+    ∙ then-passes _ _ (sym (second .check-length2 .ensures .same) ∙ c .before .enum-told2 .given .1))
 
 returns-2 : tie.Need-returns-2
 returns-2 c =
     let second = c .before .before .before in
     let first = second .before .before .before in
-    sym (then-passes _ _ (sym (first .check-length .ensures) ∙ second .before .enum-told .given .1)
-    ∙ then-fails _ _ _ (sym (second .check-length2 .ensures) ∙ c .before .r .given .1))
+    sym (then-passes _ _ (sym (first .check-length .ensures .same) ∙ second .before .enum-told .given .1)
+    ∙ then-fails _ _ _ (sym (second .check-length2 .ensures .same) ∙ c .before .r .given .1))
 
 returns-3 : tie.Need-returns-3
-returns-3 c = sym (then-fails _ _ _ (sym (c .before .before .before .check-length .ensures) ∙ c .before .r2 .given .1))
+returns-3 c = sym (then-fails _ _ _ (sym (c .before .before .before .check-length .ensures .same) ∙ c .before .r2 .given .1))
 
 pub check-lent-spec : {M : Type 1} → statement M
 check-lent-spec =
