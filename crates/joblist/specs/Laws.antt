@@ -6,3 +6,4 @@ pub mod Fields
 pub mod RoundTrip
 pub mod Lists
 pub mod Places
+pub mod Front

@@ -6,3 +6,4 @@ pub mod Writing
 pub mod Parts
 pub mod Laws
 pub mod Theorems
+pub mod Cases

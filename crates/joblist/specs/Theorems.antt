@@ -4,6 +4,7 @@ use Prim.Native.Nat.{ℕ, _≤_}
 use mathlib.Core.Path.{_≡_, refl, ap, sym, subst, _∙_}
 use mathlib.Core.Bool.{false}
 use mathlib.Core.List.{List, _++_}
+use mathlib.Core.Logic.{_↔_}
 use lib.ListN.{length, take, drop}
 use lib.Seq.{take-at}
 use Rattle.sched.specs.Jobs.{Jobs, jobsOf, count}
@@ -14,16 +15,18 @@ use Rattle.sched.specs.declared.Checked.the-variants.{Passed, Refused as Faulty
 use Rattle.sched.specs.declared.Refusal.{Refusal}
 use Rattle.sched.specs.Refusals.{place}
 use Rattle.joblist.specs.Bytes.{AreBytes, headerCount, spelling}
+use Rattle.joblist.specs.Entries.{releaseOf}
 use Rattle.joblist.specs.Reading.{LentRoom, readCheck, listOf, Reading, reading}
 use Rattle.joblist.specs.Writing.{Writing, spellCheck, writtenIf, writing}
 use Rattle.joblist.specs.declared.ListWritten.the-variants.{Written}
 use Rattle.joblist.specs.Laws.Input.{read-passed, read-passes, reading-accepted}
 use Rattle.joblist.specs.Theorems.Handed.{read-list}
 use Rattle.joblist.specs.Laws.Places.{PlaceWithin, read-within}
-use Rattle.joblist.specs.Laws.Lists.{list-back, spelling-good, count-back, input-again, list-passes}
+use Rattle.joblist.specs.Laws.Lists.{list-back, spelling-good, count-back, field-count, input-again, list-passes}
 use Rattle.joblist.specs.declared.ListHeader.{ListHeader}
 use Rattle.joblist.specs.declared.ListRead.the-variants.{Read}
 pub mod Handed
+pub mod Longest
 
 -- the reading that hands over just the list J, past which the lent lists keep their entries
 abbrev pub handsOver : Jobs → List ℕ → List ℕ → List ℕ → Reading
@@ -94,6 +97,38 @@ read-list-passes bytes r d p small e = list-passes bytes r d p small (read-passe
 -- the place of every refusal is small: no list has more than 453 bytes, and what follows them is told by its offset
 pub place-small : (bytes : List ℕ) (r d p : ℕ) (x : Refusal) → readCheck bytes r d p ≡ Faulty x → place x ≤ 453
 place-small bytes r d p x e = subst (PlaceWithin 453) e (read-within bytes r d p)
+
+-- 5. "Given as bytes, it passes if the bytes are the one spelling of such a list": the reader takes bytes exactly where they spell a list that
+-- passes the list checks and the lent lists have room for it; they spell no other, and by `spelling-list` it is the list that is read.
+
+pub record SpellOne (bytes : List ℕ) (J : Jobs) : Type 0 where
+  pub passes : Passes J
+  pub asleep : J .start ≡ false
+  pub spelled : bytes ≡ spelling J
+  pub only : (K : Jobs) → Passes K → K .start ≡ false → bytes ≡ spelling K → K ≡ J
+
+pub read-iff-spelled : (bytes : List ℕ) (r d p : ℕ) → AreBytes bytes →
+    (readCheck bytes r d p ≡ Passed) ↔ ((J : Jobs) × (SpellOne bytes J × LentRoom (count J) r d p))
+read-iff-spelled bytes r d p small = (spells, taken)
+  where
+    spells : readCheck bytes r d p ≡ Passed → (J : Jobs) × (SpellOne bytes J × LentRoom (count J) r d p)
+    spells e =
+        let g = read-passed bytes r d p e in
+        (
+          listOf bytes,
+          (
+            record {
+              passes = list-passes bytes r d p small g;
+              asleep = refl;
+              spelled = input-again bytes r d p small g;
+              only = λ K passes asleep same. sym (ap listOf same ∙ spelling-list K asleep passes);
+            },
+            rw (field-count bytes releaseOf) (g .room),
+          ),
+        )
+
+    taken : (J : Jobs) × (SpellOne bytes J × LentRoom (count J) r d p) → readCheck bytes r d p ≡ Passed
+    taken (J, (one, room)) = rw (one .spelled) (spelling-read J r d p (one .passes) room)
 
 -- The same of the writer itself, with a buffer that is long enough
 

@@ -84,6 +84,11 @@ module _ (J : Jobs) where
 
 -- Read and written again
 
+-- each field is read as often as the header says
+pub field-count : (bytes : List ℕ) (field : List ℕ → ℕ) →
+    length (column entrySize field (headerCount bytes) (drop headerLength bytes)) ≡ headerCount bytes
+field-count bytes field = column-length entrySize field (headerCount bytes) (drop headerLength bytes)
+
 header-again : (bytes rest : List ℕ) → AreBytes bytes → headerLength ≤ length bytes → rest ≡ drop headerLength bytes →
     (twoBytes (headerHorizon bytes) ++ (twoBytes (headerWake bytes) ++ (countByte (headerStart bytes) (headerCount bytes) ∷ []))) ++ rest ≡ bytes
 header-again [] rest small l e = absurd (omega arith)
@@ -105,21 +110,18 @@ module _ (bytes : List ℕ) (r d p : ℕ) (small : AreBytes bytes) (g : GoodInpu
       entries-again (headerCount bytes) (headerHorizon bytes) (length bytes) 0 headerLength (drop headerLength bytes)
       (are-bytes-drop headerLength bytes small) (g .entries)
 
-  many : (field : List ℕ → ℕ) → length (column entrySize field (headerCount bytes) (drop headerLength bytes)) ≡ headerCount bytes
-  many field = column-length entrySize field (headerCount bytes) (drop headerLength bytes)
-
   pub input-again : bytes ≡ spelling (listOf bytes)
   unfolding spelling
   input-again =
-      sym (rw (many releaseOf) (header-again bytes _ small (g .header .long) (again .bytes)))
+      sym (rw (field-count bytes releaseOf) (header-again bytes _ small (g .header .long) (again .bytes)))
 
   pub list-passes : Passes (listOf bytes)
   list-passes =
       record {
         low = g .header .low;
         high = g .header .high;
-        same-deadlines = many (deadlineOf (headerHorizon bytes)) ∙ sym (many releaseOf);
-        same-volumes = many volumeOf ∙ sym (many releaseOf);
-        few = rw (many releaseOf) (g .header .few);
-        good = λ j l. again .good j (rw (many releaseOf) at l);
+        same-deadlines = field-count bytes (deadlineOf (headerHorizon bytes)) ∙ sym (field-count bytes releaseOf);
+        same-volumes = field-count bytes volumeOf ∙ sym (field-count bytes releaseOf);
+        few = rw (field-count bytes releaseOf) (g .header .few);
+        good = λ j l. again .good j (rw (field-count bytes releaseOf) at l);
       }

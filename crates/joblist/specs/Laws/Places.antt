@@ -26,7 +26,7 @@ pub width-small : (b : Bool) → width b ≤ 2
 width-small true = omega arith
 width-small false = omega arith
 
-entry-short : (bs : List ℕ) → entrySize bs ≤ 7
+pub entry-short : (bs : List ℕ) → entrySize bs ≤ 7
 entry-short bs =
     let map = entryMap bs in
     omega (arith, width-small (hasRelease map), width-small (hasDeadline map), width-small (hasVolume map))

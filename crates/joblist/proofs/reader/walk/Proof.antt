@@ -114,7 +114,7 @@ same-length-6 : tie.Need-same-length-6 Inv-loop μ-loop
 same-length-6 c = c .before .before .loop .inv .volumes .same
 
 returns-2 : tie.Need-returns-2 Inv-loop μ-loop
-returns-2 c = walk-left-over (c .before .before .loop .inv) (c .before .loop-test .left) (c .if1 .taken)
+returns-2 c = walk-left-over (c .before .before .loop .inv) (c .before .loop-test .left) (omega (arith, c .if1 .taken))
 
 same-length-7 : tie.Need-same-length-7 Inv-loop μ-loop
 same-length-7 c = c .before .before .loop .inv .releases .same
@@ -128,7 +128,7 @@ same-length-9 c = c .before .before .loop .inv .volumes .same
 returns-3 : tie.Need-returns-3 Inv-loop μ-loop
 returns-3 c =
     let here = c .before .before in
-    walk-end (here .loop .inv) (start here .pre) (c .before .loop-test .left) (c .if1 .left)
+    walk-end (here .loop .inv) (start here .pre) (c .before .loop-test .left) (omega (arith, c .if1 .left))
 
 pub walk-spec : {M : Type 1} → statement M
 walk-spec =
