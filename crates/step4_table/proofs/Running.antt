@@ -33,14 +33,23 @@ table-is-run J S p long full =
 module _ (releases deadlines volumes table units : List ℕ) (u : Units volumes units) where
   pub run-fills :
       (left′ table′ : List ℕ) → RunDone (spansOf releases deadlines) 0 units table left′ table′ → Fills releases deadlines volumes table table′
-  run-fills left′ table′ d J p long full =
-      let S = awake (awakeOf table) in
-      let same : spansOf releases deadlines ≡ spans J = sym (ap₂ spansOf (p .releases-are) (p .deadlines-are)) in
-      whole-table d
-      ∙ ap (λ (F : Spans). bytes F S (length table) 0 (stateOf units)) same
-      ∙ ap (λ (h : ℕ). bytes (spans J) S h 0 (stateOf units)) long
-      ∙ ap (bytes (spans J) S (J .horizon) 0) (u .same ∙ sym (ap stateOf (p .volumes-are)))
-      ∙ table-is-run J (awakeOf table) (p .passes) (awake-of-length table ∙ long) full
+  run-fills left′ table′ d =
+      record {
+        run-is = ran;
+        step-is = λ J p long full.
+            let same : spansOf releases deadlines ≡ spans J = sym (ap₂ spansOf (p .releases-are) (p .deadlines-are)) in
+            ran
+            ∙ ap (λ (F : Spans). bytes F S (length table) 0 (stateOf volumes)) same
+            ∙ ap (λ (h : ℕ). bytes (spans J) S h 0 (stateOf volumes)) long
+            ∙ ap (bytes (spans J) S (J .horizon) 0) (sym (ap stateOf (p .volumes-are)))
+            ∙ table-is-run J (awakeOf table) (p .passes) (awake-of-length table ∙ long) full;
+      }
+    where
+      S : ℕ → Bool
+      S = awake (awakeOf table)
+
+      ran : table′ ≡ bytes (spansOf releases deadlines) S (length table) 0 (stateOf volumes)
+      ran = whole-table d ∙ ap (bytes (spansOf releases deadlines) S (length table) 0) (u .same)
 
   pub fill-runnable : (ranks arrivals : List ℕ) → Fillable releases deadlines volumes ranks arrivals table → Runnable releases deadlines ranks arrivals units table
   fill-runnable ranks arrivals f =
