@@ -51,6 +51,7 @@ module _ (releases deadlines volumes table units : List ℕ) (u : Units volumes 
       ran : table′ ≡ bytes (spansOf releases deadlines) S (length table) 0 (stateOf volumes)
       ran = whole-table d ∙ ap (bytes (spansOf releases deadlines) S (length table) 0) (u .same)
 
-  pub fill-runnable : (ranks arrivals : List ℕ) → Fillable releases deadlines volumes ranks arrivals table → Runnable releases deadlines ranks arrivals units table
-  fill-runnable ranks arrivals f =
-      record { short = f .short; queued = record { orders = f .orders; few = f .few; room = omega (arith, f .few, u .long) } }
+pub fill-runnable :
+    {releases deadlines volumes ranks arrivals units table : List ℕ} → Fillable releases deadlines volumes ranks arrivals table → length units ≡ 64 →
+    Runnable releases deadlines ranks arrivals units table
+fill-runnable f long = record { short = f .short; queued = record { orders = f .orders; few = f .few; room = omega (arith, f .few, long) } }
