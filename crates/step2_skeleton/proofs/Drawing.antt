@@ -1,15 +1,14 @@
 -- The table is written from left to right.
 use Prim.Native.Nat.{ℕ, zero, suc, _+_, _-_, _≤_, _<_}
-use mathlib.Core.Path.{_≡_, refl, sym, ap, _∙_}
-use mathlib.Core.Bool.{Bool, true, false, not}
+use mathlib.Core.Path.{_≡_, refl, sym, ap, ap₂, _∙_}
+use mathlib.Core.Bool.{Bool, true, false}
 use mathlib.Core.List.{List, [], _∷_, _++_, append-nil, append-assoc, map-append}
 use native.Mathlib.Numerals.{add-one}
 use native.Mathlib.Omega.{arith}
-use lib.ListN.{length, getD, take, drop, set, length-set, replicate, replicate-append-replicate, drop-of-length-le}
-use lib.Seq.{take-suc-set, take-all, drop-cons}
-use lib.Dec.{eqb}
+use lib.ListN.{length, getD, take, drop, set, length-set, length-append, length-replicate, replicate, replicate-append-replicate, drop-of-length-le, take-append-drop}
+use lib.Seq.{take-suc-set, drop-set-lt, drop-drop, drop-cons, drop-length, length-take-le, take-at, drop-at}
 use Rattle.sched.specs.Jobs.{Jobs}
-use Rattle.sched.specs.Slots.{idle, asleep, awakeOf}
+use Rattle.sched.specs.Slots.{idle, asleep}
 use Rattle.laws_skeleton.specs.Windows.{windowEnd}
 use Rattle.laws_skeleton.specs.Windows.Laws.{window-within}
 use Rattle.laws_skeleton.specs.Order.Laws.{order-behind}
@@ -18,16 +17,19 @@ use Rattle.sched.specs.Runs.{Run}
 use Rattle.laws_skeleton.specs.Runs.Clauses.{values-first, runs-none, runs-begin, runs-skip, spread-none}
 use Rattle.laws_skeleton.specs.Runs.Choice.{run-end-from}
 use Rattle.laws_skeleton.specs.Runs.Values.{run-end-inside}
+use Rattle.step2_skeleton.specs.Marks.{markByte, marked, poured, withRun}
 use Rattle.step2_skeleton.specs.Places.{Windows, Untils, Drawable, Drawn}
 use Rattle.step2_skeleton.proofs.Sleeping.{starts-many, start-at}
 use Rattle.step2_skeleton.proofs.Pricing.{end-at, start-before}
 
+-- the bytes from place `from` up to place t are `byte`, the others as they were
 pub record Poured (table₀ : List ℕ) (from to byte : ℕ) (table : List ℕ) (t : ℕ) : Type 0 where
   pub start : from ≤ t
   pub within : t ≤ to
   pub long : to ≤ length table
   pub kept : length table ≡ length table₀
   pub done : take t table ≡ take from table₀ ++ replicate (t - from) byte
+  pub rest : drop t table ≡ drop t table₀
 
 module _ (table₀ : List ℕ) (from to byte : ℕ) where
   pub poured-start : from ≤ to → to ≤ length table₀ → Poured table₀ from to byte table₀ from
@@ -40,6 +42,7 @@ module _ (table₀ : List ℕ) (from to byte : ℕ) where
         kept = refl;
         done = sym
             (ap (λ (n : ℕ). take from table₀ ++ replicate n byte) none ∙ append-nil (take from table₀));
+        rest = refl;
       }
 
   pub poured-turn : (table : List ℕ) (t : ℕ) → t < to → Poured table₀ from to byte table t → Poured table₀ from to byte (set table t byte) (t + 1)
@@ -49,6 +52,7 @@ module _ (table₀ : List ℕ) (from to byte : ℕ) where
     long = simp length-set (m .long);
     kept = length-set table t byte ∙ m .kept;
     done = simp add-one step;
+    rest = drop-set-lt (t + 1) table t byte (omega arith) ∙ sym (drop-drop 1 t table) ∙ ap (drop 1) (m .rest) ∙ drop-drop 1 t table₀;
   }
     where
       step : take (suc t) (set table t byte) ≡ take from table₀ ++ replicate (suc t - from) byte
@@ -59,41 +63,91 @@ module _ (table₀ : List ℕ) (from to byte : ℕ) where
           ∙ append-assoc (take from table₀) (replicate (t - from) byte) (byte ∷ [])
           ∙ ap (λ (r : List ℕ). take from table₀ ++ r) (replicate-append-replicate (t - from) 1 byte ∙ ap (λ (n : ℕ). replicate n byte) (sym more))
 
-  pub poured-end : (table : List ℕ) (t : ℕ) → to ≤ t → Poured table₀ from to byte table t
-      → take to table ≡ take from table₀ ++ replicate (to - from) byte
-  poured-end table t l m = let e : t ≡ to = omega (arith, m .within) in rw e at (m .done)
+  pub poured-end : (table : List ℕ) (t : ℕ) → to ≤ t → Poured table₀ from to byte table t → table ≡ poured from to byte table₀
+  poured-end table t l m =
+      let e : t ≡ to = omega (arith, m .within) in
+      sym (take-append-drop t table)
+      ∙ ap (λ (r : List ℕ). r ++ drop t table) (m .done)
+      ∙ ap (λ (r : List ℕ). (take from table₀ ++ replicate (t - from) byte) ++ r) (m .rest)
+      ∙ append-assoc (take from table₀) (replicate (t - from) byte) (drop t table₀)
+      ∙ ap (λ (n : ℕ). poured from n byte table₀) e
+
+-- two stretches, one behind the other
+module _ (table : List ℕ) (s first end : ℕ) (a : s ≤ first) (b : first ≤ end) (fits : end ≤ length table) where
+  asleep-to : length (take s table ++ replicate (first - s) asleep) ≡ first
+  asleep-to =
+      omega (
+        arith,
+        length-append (take s table) (replicate (first - s) asleep),
+        length-take-le s table (omega arith),
+        length-replicate (first - s) asleep,
+      )
+
+  one : poured s first asleep table ≡ (take s table ++ replicate (first - s) asleep) ++ drop first table
+  one = sym (append-assoc (take s table) (replicate (first - s) asleep) (drop first table))
+
+  one-front : take first (poured s first asleep table) ≡ take s table ++ replicate (first - s) asleep
+  one-front = ap (take first) one ∙ take-at (take s table ++ replicate (first - s) asleep) (drop first table) first asleep-to
+
+  one-back : drop end (poured s first asleep table) ≡ drop end table
+  one-back =
+      let m : first + (end - first) ≡ end = omega arith in
+      ap (λ (n : ℕ). drop n (poured s first asleep table)) (sym m)
+      ∙ sym (drop-drop (end - first) first (poured s first asleep table))
+      ∙ ap (λ (r : List ℕ). drop (end - first) r)
+      (ap (drop first) one ∙ drop-at (take s table ++ replicate (first - s) asleep) (drop first table) first asleep-to)
+      ∙ drop-drop (end - first) first table
+      ∙ ap (λ (n : ℕ). drop n table) m
+
+  pub run-drawn : poured first end idle (poured s first asleep table) ≡ withRun s first end table
+  run-drawn =
+      let slept = replicate (first - s) asleep in
+      let awoken = replicate (end - first) idle in
+      ap (λ (r : List ℕ). r ++ (awoken ++ drop end (poured s first asleep table))) one-front
+      ∙ ap (λ (r : List ℕ). (take s table ++ slept) ++ (awoken ++ r)) one-back
+      ∙ append-assoc (take s table) slept (awoken ++ drop end table)
+      ∙ ap (λ (r : List ℕ). take s table ++ r) (sym (append-assoc slept awoken (drop end table)))
+
+  -- the table up to the end of the run
+  run-front : take end (withRun s first end table) ≡ take s table ++ (replicate (first - s) asleep ++ replicate (end - first) idle)
+  run-front =
+      let run = replicate (first - s) asleep ++ replicate (end - first) idle in
+      ap (take end) (sym (append-assoc (take s table) run (drop end table)))
+      ∙ take-at (take s table ++ run) (drop end table) end (
+      omega (
+        arith,
+        length-append (take s table) run,
+        length-take-le s table (omega arith),
+        length-append (replicate (first - s) asleep) (replicate (end - first) idle),
+        length-replicate (first - s) asleep,
+        length-replicate (end - first) idle,
+      ))
+
+marked-replicate : (n : ℕ) (b : Bool) → marked (replicate n b) ≡ replicate n (markByte b)
+marked-replicate zero b = refl
+marked-replicate (suc n) b = ap (λ (r : List ℕ). markByte b ∷ r) (marked-replicate n b)
 
 pub record Drawing (starts ends untils table₀ table : List ℕ) (s i : ℕ) : Type 0 where
   pub within : i ≤ length starts
   pub room : s ≤ length table
   pub kept : length table ≡ length table₀
   pub done : (J : Jobs) (ranks : List ℕ) → Windows starts ends J ranks → Untils J ranks untils 0 → length table₀ ≡ J .horizon
-      → spread (J .horizon) 0 (runsOf J 0 ranks (values J ranks)) ≡ awakeOf (take s table)
-      ++ spread (J .horizon) s (runsOf J s (drop i ranks) (values J (drop i ranks)))
+      → marked (spread (J .horizon) 0 (runsOf J 0 ranks (values J ranks))) ≡ take s table
+      ++ marked (spread (J .horizon) s (runsOf J s (drop i ranks) (values J (drop i ranks))))
 
-awake-of-replicate : (n byte : ℕ) → awakeOf (replicate n byte) ≡ replicate n (not (eqb byte asleep))
-awake-of-replicate zero byte = refl
-awake-of-replicate (suc n) byte = ap (λ (r : List Bool). not (eqb byte asleep) ∷ r) (awake-of-replicate n byte)
-
--- two stretches of the table
-pub drawn-run : (table table₁ table₂ : List ℕ) (s first end : ℕ) → take first table₁ ≡ take s table ++ replicate (first - s) asleep
-    → take end table₂ ≡ take first table₁ ++ replicate (end - first) idle
-    → awakeOf (take end table₂) ≡ awakeOf (take s table) ++ (replicate (first - s) false ++ replicate (end - first) true)
-drawn-run table table₁ table₂ s first end a b =
-    ap awakeOf (b ∙ ap (λ (r : List ℕ). r ++ replicate (end - first) idle) a ∙ append-assoc (take s table) (replicate (first - s) asleep)
-    (replicate (end - first) idle))
-    ∙ map-append (λ byte. not (eqb byte asleep)) (take s table) (replicate (first - s) asleep ++ replicate (end - first) idle)
-    ∙ ap (λ (r : List Bool). awakeOf (take s table) ++ r) (
-    map-append (λ byte. not (eqb byte asleep)) (replicate (first - s) asleep) (replicate (end - first) idle)
-    ∙ ap (λ (r : List Bool). r ++ awakeOf (replicate (end - first) idle)) (awake-of-replicate (first - s) asleep)
-    ∙ ap (λ (r : List Bool). replicate (first - s) false ++ r) (awake-of-replicate (end - first) idle))
-
-spread-to : (h t e u : ℕ) (rs : List Run) → e ≤ u
-    → spread h t (record { first = e; slots = u - e } ∷ rs) ≡ replicate (e - t) false ++ (replicate (u - e) true ++ spread h u rs)
+-- a run that begins with slot e and ends before slot u, and the runs behind it
+marked-run : (h t e u : ℕ) (rs : List Run) → e ≤ u
+    → marked (spread h t (record { first = e; slots = u - e } ∷ rs)) ≡ (replicate (e - t) asleep ++ replicate (u - e) idle) ++ marked (spread h u rs)
 unfolding spread
-spread-to h t e u rs l =
+marked-run h t e u rs l =
     let m : e + (u - e) ≡ u = omega arith in
-    ap (λ (n : ℕ). replicate (e - t) false ++ (replicate (u - e) true ++ spread h n rs)) m
+    let row = replicate (e - t) false in
+    let ones = replicate (u - e) true in
+    ap (λ (n : ℕ). marked (row ++ (ones ++ spread h n rs))) m
+    ∙ map-append markByte row (ones ++ spread h u rs)
+    ∙ ap (λ (r : List ℕ). marked row ++ r) (map-append markByte ones (spread h u rs))
+    ∙ sym (append-assoc (marked row) (marked ones) (marked (spread h u rs)))
+    ∙ ap₂ (λ (q r : List ℕ). (q ++ r) ++ marked (spread h u rs)) (marked-replicate (e - t) false) (marked-replicate (u - e) true)
 
 module _ {starts ends untils table₀ : List ℕ} where
   pub drawing-start : Drawing starts ends untils table₀ table₀ 0 0
@@ -115,7 +169,7 @@ module _ {starts ends untils table₀ : List ℕ} where
       within = omega arith;
       room = d .room;
       kept = d .kept;
-      done = λ J ranks w u h. simp add-one (d .done J ranks w u h ∙ ap (λ (rs : List Run). awakeOf (take s table) ++ spread (J .horizon) s rs)
+      done = λ J ranks w u h. simp add-one (d .done J ranks w u h ∙ ap (λ (rs : List Run). take s table ++ marked (spread (J .horizon) s rs))
           (next J ranks w
           ∙ runs-skip J s (getD ranks i 0) (valueAt J (windowEnd J (getD ranks i 0)) (drop (suc i) ranks) (values J (drop (suc i) ranks)))
           (drop (suc i) ranks) (values J (drop (suc i) ranks)) (omega (arith, start-at J ranks starts (w .firsts) i l))));
@@ -142,9 +196,7 @@ module _ {starts ends untils table₀ : List ℕ} where
           )
 
       pub drawing-run : (table′ : List ℕ) → length table′ ≡ length table
-          → awakeOf (take (getD untils i 0) table′) ≡ awakeOf (take s table)
-          ++ (replicate (getD ends i 0 - s) false ++ replicate (getD untils i 0 - getD ends i 0) true)
-          → Drawing starts ends untils table₀ table′ (getD untils i 0) (i + 1)
+          → table′ ≡ withRun s (getD ends i 0) (getD untils i 0) table → Drawing starts ends untils table₀ table′ (getD untils i 0) (i + 1)
       drawing-run table′ same a = record {
         within = omega arith;
         room = omega (arith, run-fits .2);
@@ -153,8 +205,8 @@ module _ {starts ends untils table₀ : List ℕ} where
       }
         where
           go : (J : Jobs) (ranks : List ℕ) → Windows starts ends J ranks → Untils J ranks untils 0 → length table₀ ≡ J .horizon
-              → spread (J .horizon) 0 (runsOf J 0 ranks (values J ranks)) ≡ awakeOf (take (getD untils i 0) table′)
-              ++ spread (J .horizon) (getD untils i 0) (runsOf J (getD untils i 0) (drop (suc i) ranks) (values J (drop (suc i) ranks)))
+              → marked (spread (J .horizon) 0 (runsOf J 0 ranks (values J ranks))) ≡ take (getD untils i 0) table′
+              ++ marked (spread (J .horizon) (getD untils i 0) (runsOf J (getD untils i 0) (drop (suc i) ranks) (values J (drop (suc i) ranks))))
           go J ranks w u h =
               let last = windowEnd J (getD ranks i 0) in
               let js = drop (suc i) ranks in
@@ -163,31 +215,30 @@ module _ {starts ends untils table₀ : List ℕ} where
               let rs = runsOf J end js vs in
               let isEnd : getD untils i 0 ≡ end = u i (omega arith) (omega (arith, starts-many J ranks starts (w .firsts))) in
               let isLast : getD ends i 0 ≡ last = end-at starts ends J ranks w i l in
-              let row = replicate (last - s) false in
-              let ones = replicate (end - last) true in
+              let behind = marked (spread (J .horizon) end rs) in
+              let fits = run-fits in
               d .done J ranks w u h
-              ∙ ap (λ (q : List Run). awakeOf (take s table) ++ spread (J .horizon) s q)
+              ∙ ap (λ (q : List Run). take s table ++ marked (spread (J .horizon) s q))
               (next J ranks w ∙ runs-begin J s (getD ranks i 0) (valueAt J last js vs) js vs
               (omega (arith, start-at J ranks starts (w .firsts) i l)))
-              ∙ ap (λ (q : List Bool). awakeOf (take s table) ++ q)
-              (spread-to (J .horizon) s last end rs (omega (arith, run-end-from J js vs (suc last))) ∙ sym
-              (append-assoc row ones (spread (J .horizon) end rs)))
-              ∙ sym (append-assoc (awakeOf (take s table)) (row ++ ones) (spread (J .horizon) end rs))
-              ∙ ap (λ (q : List Bool). q ++ spread (J .horizon) end rs) (sym (a
-              ∙ ap (λ (n : ℕ). awakeOf (take s table) ++ (replicate (n - s) false ++ replicate (getD untils i 0 - n) true)) isLast
-              ∙ ap (λ (n : ℕ). awakeOf (take s table) ++ (replicate (last - s) false ++ replicate (n - last) true)) isEnd))
-              ∙ ap (λ (n : ℕ). awakeOf (take (getD untils i 0) table′) ++ spread (J .horizon) n (runsOf J n js vs)) (sym isEnd)
+              ∙ ap (λ (q : List ℕ). take s table ++ q) (marked-run (J .horizon) s last end rs (omega (arith, run-end-from J js vs (suc last))))
+              ∙ sym (append-assoc (take s table) (replicate (last - s) asleep ++ replicate (end - last) idle) behind)
+              ∙ ap (λ (q : List ℕ). q ++ behind) (sym (ap (take (getD untils i 0)) a
+              ∙ run-front table s (getD ends i 0) (getD untils i 0) (fits .0) (fits .1) (fits .2)
+              ∙ ap (λ (n : ℕ). take s table ++ (replicate (n - s) asleep ++ replicate (getD untils i 0 - n) idle)) isLast
+              ∙ ap (λ (n : ℕ). take s table ++ (replicate (last - s) asleep ++ replicate (n - last) idle)) isEnd))
+              ∙ ap (λ (n : ℕ). take (getD untils i 0) table′ ++ marked (spread (J .horizon) n (runsOf J n js vs))) (sym isEnd)
 
   pub drawing-end : {table : List ℕ} (table′ : List ℕ) {s i : ℕ} → length starts ≤ i → length table′ ≡ length table
-      → take (length table) table′ ≡ take s table ++ replicate (length table - s) asleep
-      → Drawing starts ends untils table₀ table s i → Drawn starts ends untils table′
+      → table′ ≡ poured s (length table) asleep table → Drawing starts ends untils table₀ table s i → Drawn starts ends untils table′
   drawing-end {table} table′ {s} {i} l same a d J ranks w u h =
       let long : length table ≡ J .horizon = sym same ∙ h in
-      ap awakeOf (sym (take-all (length table) table′ (omega arith)) ∙ a)
-      ∙ map-append (λ byte. not (eqb byte asleep)) (take s table) (replicate (length table - s) asleep)
-      ∙ ap (λ (q : List Bool). awakeOf (take s table) ++ q)
-      (awake-of-replicate (length table - s) asleep ∙ ap (λ (n : ℕ). replicate (n - s) false) long
-      ∙ sym (ap (λ (js : List ℕ). spread (J .horizon) s (runsOf J s js (values J (drop i ranks))))
+      let slept = replicate (length table - s) asleep in
+      a
+      ∙ ap (λ (q : List ℕ). take s table ++ (slept ++ q)) (drop-length table)
+      ∙ ap (λ (q : List ℕ). take s table ++ q)
+      (append-nil slept ∙ ap (λ (n : ℕ). replicate (n - s) asleep) long ∙ sym (marked-replicate (J .horizon - s) false)
+      ∙ sym (ap marked (ap (λ (js : List ℕ). spread (J .horizon) s (runsOf J s js (values J (drop i ranks))))
       (drop-of-length-le ranks {i = i} (omega (arith, starts-many J ranks starts (w .firsts))))
-      ∙ ap (spread (J .horizon) s) (runs-none J s (values J (drop i ranks))) ∙ spread-none (J .horizon) s))
+      ∙ ap (spread (J .horizon) s) (runs-none J s (values J (drop i ranks))) ∙ spread-none (J .horizon) s)))
       ∙ sym (d .done J ranks w u (sym (d .kept) ∙ long))

@@ -5,9 +5,9 @@ use mathlib.Core.List.{List, _++_, map}
 use native.Mathlib.Omega.{arith}
 use lib.ListN.{length, getD, take, drop, replicate}
 use Rattle.sched.specs.Jobs.{Jobs, deadline}
-use Rattle.sched.specs.Slots.{awakeOf}
 use Rattle.sched.specs.Skeleton.{leastSkeleton}
 use Rattle.laws_skeleton.specs.Theorems.{runs-are-least}
+use Rattle.step2_skeleton.specs.Marks.{marked}
 use Rattle.step2_skeleton.specs.Places.{Placeable, Windows, Untils, Fresh, Drawable, Drawn, Markable, MarkableWindows, MarkedWindows}
 use Rattle.orders.specs.Fronts.{blank, front-length, filled-front, filled-front-length}
 use Rattle.step2_skeleton.proofs.Sleeping.{starts-many}
@@ -57,7 +57,7 @@ module _ {q : ℕ} {starts ends table : List ℕ} (p : MarkableWindows q starts 
         → MarkedWindows q starts ends table′
     all-marked table′ d J ranks w wake asleep h =
         d J ranks w (subst (λ (l : List ℕ). Untils J ranks l 0) (sym same) (u J ranks w wake)) h
-        ∙ runs-are-least J ranks (w .passes) (w .serves) asleep
+        ∙ ap marked (runs-are-least J ranks (w .passes) (w .serves) asleep)
 
 -- what stands in the front of an array after a call
 abbrev pub front : ℕ → List ℕ → List ℕ
@@ -103,5 +103,5 @@ module _ {h : ℕ} {releases deadlines ranks starts ends : List ℕ}
   all-markable = record { J = J; ranks = ranks; wake = p .wake-is; windows = windows; long = p .long }
 
   pub mark-ends : (table′ : List ℕ) → length table′ ≡ length table
-      → MarkedWindows q (front (length ranks) starts) (front (length ranks) ends) table′ → awakeOf table′ ≡ leastSkeleton J
+      → MarkedWindows q (front (length ranks) starts) (front (length ranks) ends) table′ → table′ ≡ marked (leastSkeleton J)
   mark-ends table′ kept m = m J ranks windows (p .wake-is) (p .asleep) (kept ∙ p .long)

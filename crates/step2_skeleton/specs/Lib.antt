@@ -1,2 +1,3 @@
--- What the parts of step 2 compute.
+-- What the parts of step 2 compute, and the bytes that they write.
 pub mod Places
+pub mod Marks

@@ -8,10 +8,10 @@ use lib.ListN.{length, getD, drop}
 use lib.Dec.{leb, ltb, eqb}
 use Rattle.sched.specs.Jobs.{Jobs, count}
 use Rattle.sched.specs.Checks.{Passes}
-use Rattle.sched.specs.Slots.{awakeOf}
 use Rattle.sched.specs.Skeleton.{leastSkeleton}
 use Rattle.laws_skeleton.specs.Windows.{windowStart, windowEnd}
 use Rattle.laws_skeleton.specs.Order.{Order}
+use Rattle.step2_skeleton.specs.Marks.{marked}
 use Rattle.laws_skeleton.specs.Runs.{sleepCost, throughCost, runEnd, endAfter, values, runsOf, spread}
 
 abbrev pub oneOf : Bool → ℕ → ℕ → ℕ
@@ -127,7 +127,7 @@ pub record Drawable (starts ends untils table : List ℕ) : Type 0 where
 abbrev pub Drawn : List ℕ → List ℕ → List ℕ → List ℕ → Type 0
 Drawn starts ends untils table =
     (J : Jobs) (ranks : List ℕ) → Windows starts ends J ranks → Untils J ranks untils 0 → length table ≡ J .horizon
-    → awakeOf table ≡ spread (J .horizon) 0 (runsOf J 0 ranks (values J ranks))
+    → table ≡ marked (spread (J .horizon) 0 (runsOf J 0 ranks (values J ranks)))
 
 pub record MarkableWindows (q : ℕ) (starts ends table : List ℕ) : Type 0 where
   pub J : Jobs
@@ -139,4 +139,4 @@ pub record MarkableWindows (q : ℕ) (starts ends table : List ℕ) : Type 0 whe
 abbrev pub MarkedWindows : ℕ → List ℕ → List ℕ → List ℕ → Type 0
 MarkedWindows q starts ends table =
     (J : Jobs) (ranks : List ℕ) → Windows starts ends J ranks → J .wake ≡ q → J .start ≡ false → length table ≡ J .horizon
-    → awakeOf table ≡ leastSkeleton J
+    → table ≡ marked (leastSkeleton J)

@@ -1,13 +1,12 @@
 // Step 2: the least skeleton, from one number a job. A place is a position in an order of the jobs by the ends of their windows.
 ghost use mathlib.Core.Path.{_≡_};
-ghost use mathlib.Core.Bool.{true, false};
-ghost use mathlib.Core.List.{List, _++_, map};
+ghost use mathlib.Core.List.{List, map};
 ghost use Prim.Native.Nat.{ℕ, _+_, _-_, _≤_, _<_, min};
-ghost use lib.ListN.{length, getD, take, replicate};
+ghost use lib.ListN.{length, getD};
 ghost use lib.Dec.{ltb};
 ghost use Rattle.sched.specs.Jobs.{Jobs};
-ghost use Rattle.sched.specs.Slots.{awakeOf};
 ghost use Rattle.sched.specs.Skeleton.{leastSkeleton};
+ghost use Rattle.step2_skeleton.specs.Marks.{marked, poured, withRun};
 ghost use Rattle.step2_skeleton.specs.Places.{oneOf, wins, largest, AtMostFrom, Placeable, SleepFrom, EndFrom, Windows, Priceable, Step, Fresh, Untils, Drawable, Drawn, MarkableWindows, MarkedWindows, Markable};
 use sched::ASLEEP;
 use sched::IDLE;
@@ -163,7 +162,7 @@ fn price_all(
 
 fn fill(table: &mut [u8], from: usize, to: usize, byte: u8)
     requires { ⌜ (from ≤ to) × (to ≤ length (now table)) ⌝ }
-    ensures { λ r. ⌜ take to (now (table .exit)) ≡ take from (now (table .entry)) ++ replicate (to - from) byte ⌝ }
+    ensures { λ r. ⌜ now (table .exit) ≡ poured from to byte (now (table .entry)) ⌝ }
 {
     let mut t = from;
     while t < to {
@@ -175,7 +174,7 @@ fn fill(table: &mut [u8], from: usize, to: usize, byte: u8)
 // The slots from s on: asleep up to slot `first`, awake from there up to slot `end`.
 fn draw_run(table: &mut [u8], s: usize, first: usize, end: usize)
     requires { ⌜ (s ≤ first) × (first ≤ end) × (end ≤ length (now table)) ⌝ }
-    ensures { λ r. ⌜ awakeOf (take end (now (table .exit))) ≡ awakeOf (take s (now (table .entry))) ++ (replicate (first - s) false ++ replicate (end - first) true) ⌝ }
+    ensures { λ r. ⌜ now (table .exit) ≡ withRun s first end (now (table .entry)) ⌝ }
 {
     fill(table, s, first, ASLEEP);
     fill(table, first, end, IDLE);
@@ -224,7 +223,7 @@ fn mark_windows(q: u16, starts: &[u16], ends: &[u16], table: &mut [u8])
 // The least skeleton of a list that passes the checks: awake and idle, or asleep.
 pub fn mark(h: u16, q: u16, releases: &[u16], deadlines: &[u16], ranks: &[u8], table: &mut [u8])
     requires { ⌜ ((J : Jobs) × Markable J h q (now releases) (now deadlines) (now ranks) (now table)) ⌝ }
-    ensures { λ r. ⌜ ((J : Jobs) → Markable J h q (now (releases .entry)) (now (deadlines .entry)) (now (ranks .entry)) (now (table .entry)) → awakeOf (now (table .exit)) ≡ leastSkeleton J) ⌝ }
+    ensures { λ r. ⌜ ((J : Jobs) → Markable J h q (now (releases .entry)) (now (deadlines .entry)) (now (ranks .entry)) (now (table .entry)) → now (table .exit) ≡ marked (leastSkeleton J)) ⌝ }
 {
     let n = ranks.len();
     let mut starts = [0u16; 64];

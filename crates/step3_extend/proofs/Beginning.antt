@@ -14,7 +14,6 @@ use Rattle.sched.specs.Extension.{wokenIn, woken, wakeAll, extended}
 use Rattle.laws_edf.specs.Run.{State, Spans, spans, bytes, final}
 use Rattle.laws_edf.specs.Orders.{Orders}
 use Rattle.laws_edf.specs.Search.{stateOf}
-use Rattle.laws_edf.specs.Placements.{bytes-long}
 use Rattle.laws_edf.specs.Theorems.{workable-at-most-total, some-slot-wakes}
 use Rattle.laws_extension.specs.Chain.{Kept}
 use Rattle.laws_extension.specs.Chain.Keeping.{runBytes}
@@ -42,6 +41,9 @@ module _ {J : Jobs} {releases deadlines volumes ranks table : List ℕ} (g : Ext
   lent-long : length table ≡ J .horizon
   lent-long = sym (awake-of-length table) ∙ set-long
 
+  pub begin-small : (table′ : List ℕ) → length table′ ≡ length table → length table′ ≤ 4096
+  begin-small table′ same = omega (arith, same, lent-long, g .passes .high)
+
   module _ {units : List ℕ} (u : Units volumes units) where
     pub begin-runnable : {arrivals : List ℕ} → Orders releases deadlines ranks arrivals → Runnable releases deadlines ranks arrivals units table
     begin-runnable o =
@@ -50,6 +52,9 @@ module _ {J : Jobs} {releases deadlines volumes ranks table : List ℕ} (g : Ext
           short = omega (arith, lent-long, g .passes .high);
           queued = record { orders = o; few = few; room = omega (arith, u .long) };
         }
+
+    pub begin-room : (lost : List ℕ) → length lost ≡ length units → (length ranks ≤ 64) × (length ranks ≤ length lost)
+    begin-room lost same = (omega (arith, g .many, g .passes .few), omega (arith, g .many, g .passes .few, same, u .long))
 
     all-units : stateOf units ≡ volume J
     all-units = u .same ∙ ap stateOf (sym (g .volumes-are))
@@ -70,20 +75,13 @@ module _ {J : Jobs} {releases deadlines volumes ranks table : List ℕ} (g : Ext
           ∙ ap (λ (n : ℕ). final (spans J) (awake (awakeOf table)) n 0 (stateOf units)) lent-long
           ∙ ap (final (spans J) (awake (awakeOf table)) (J .horizon) 0) all-units
 
-      pub begin-small : length table′ ≤ 4096
-      begin-small =
-          omega (arith, ap length ran, bytes-long (spans J) (awake (awakeOf table)) (J .horizon) 0 (volume J), g .passes .high)
-
-      pub begin-room : (length ranks ≤ 64) × (length ranks ≤ length lost)
-      begin-room = (omega (arith, g .many, g .passes .few), omega (arith, g .many, g .passes .few, done .left-long, u .long))
-
       module _ {ends : List ℕ} (same : length ends ≡ length {A = ℕ} (replicate 64 0)) (last : EndsOf table′ ends) {short : ℕ}
           (sum : short ≡ sumBelow (length ranks) (stateOf lost)) where
         kept : Kept J (awakeOf table) table′ lost ends
         kept =
             record {
               table-is = ran;
-              lost-long = omega (arith, begin-room .1, g .many);
+              lost-long = omega (arith, begin-room lost (done .left-long) .1, g .many);
               ends-long = omega (arith, g .passes .few, same, length-replicate {A = ℕ} 64 0);
               lost-is = λ j l. ap (λ (L : State). L j) over;
               ends-is = λ j l. last .each j (omega (arith, g .passes .few));

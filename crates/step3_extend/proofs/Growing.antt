@@ -235,4 +235,4 @@ module _ {releases deadlines ranks lost₀ reach₀ ends₀ table₀ : List ℕ}
 
     pub grown-end : short ≤ 0 → (K : Jobs) → Growing K releases deadlines ranks lost₀ reach₀ ends₀ table₀ short₀ added₀ cursor₀
         → Extended K table added
-    grown-end l K k = way-end (g .every K k .way) l
+    grown-end l K k = let n = g .every K k in way-end table (n .way) l (n .kept .table-is)

@@ -12,10 +12,11 @@ use borrow.Author.Tests.{lt-ltb}
 use lib.ListN.{length, length-set}
 use Rattle.sched.specs.Bounded.{leastFrom}
 use Rattle.sched.specs.Bounded.Laws.{lt-suc, by-bool, true-not-false}
-use Rattle.sched.specs.Jobs.{Jobs, totalVolume}
+use Rattle.sched.specs.Jobs.{Jobs, volume, totalVolume}
 use Rattle.sched.specs.Slots.{awake, awakeOf, wakeSlot}
 use Rattle.sched.specs.Workable.{workable}
 use Rattle.sched.specs.Extension.{wakeable, nextWake, wokenIn, wakeAll, extended}
+use Rattle.laws_edf.specs.Run.{spans, bytes}
 use Rattle.laws_edf.specs.Theorems.{unhelpful-stays, some-slot-wakes}
 use Rattle.laws_extension.specs.Waking.{Turn}
 use Rattle.laws_extension.specs.Waking.Laws.{wakes-turn, wake-skeleton}
@@ -115,16 +116,21 @@ module _ {J : Jobs} {S : List Bool} {short added cursor : ℕ} (e : Extending J 
           in-all = omega (arith, e .in-all);
         }
 
--- no turn is left
-pub way-end : {J : Jobs} {table : List ℕ} {short added cursor : ℕ} → Extending J (awakeOf table) short added cursor → short ≤ 0
-    → Extended J table added
-way-end {J} {table} {short} {added} {cursor} e l =
-    record {
-      set-is = sym (e .whole ∙ ap (wakeAll (awakeOf table)) (none-left (wokenIn (e .turns) J (awakeOf table)) (omega (arith, e .still))) ∙ no-turn
-          (awakeOf table));
-      added-is = omega (arith, e .in-all);
-    }
-  where
-    none-left : (ts : List ℕ) → length ts ≡ 0 → ts ≡ []
-    none-left [] q = refl
-    none-left (t ∷ ts) q = absurd (omega arith)
+none-left : (ts : List ℕ) → length ts ≡ 0 → ts ≡ []
+none-left [] q = refl
+none-left (t ∷ ts) q = absurd (omega arith)
+
+-- no turn is left, and the table is the run over its set
+module _ {J : Jobs} (table : List ℕ) {short added cursor : ℕ} (e : Extending J (awakeOf table) short added cursor) (l : short ≤ 0) where
+  all-woken : awakeOf table ≡ extended J
+  all-woken =
+      sym (e .whole ∙ ap (wakeAll (awakeOf table)) (none-left (wokenIn (e .turns) J (awakeOf table)) (omega (arith, e .still)))
+      ∙ no-turn (awakeOf table))
+
+  pub way-end : table ≡ bytes (spans J) (awake (awakeOf table)) (J .horizon) 0 (volume J) → Extended J table added
+  way-end r =
+      record {
+        set-is = all-woken;
+        table-is = r ∙ ap (λ (S : List Bool). bytes (spans J) (awake S) (J .horizon) 0 (volume J)) all-woken;
+        added-is = omega (arith, e .in-all);
+      }

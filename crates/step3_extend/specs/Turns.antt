@@ -4,13 +4,14 @@ use mathlib.Core.Path.{_≡_}
 use mathlib.Core.Bool.{Bool, true, false}
 use mathlib.Core.List.{List}
 use lib.ListN.{length, getD}
-use Rattle.sched.specs.Jobs.{Jobs, count, deadline, totalVolume}
+use Rattle.sched.specs.Jobs.{Jobs, count, deadline, volume, totalVolume}
 use Rattle.sched.specs.Checks.{Passes}
-use Rattle.sched.specs.Slots.{awakeOf, touches}
+use Rattle.sched.specs.Slots.{awake, awakeOf, touches}
 use Rattle.sched.specs.Overload.{overloaded}
 use Rattle.sched.specs.Skeleton.{isSkeleton, leastSkeleton}
 use Rattle.sched.specs.Workable.{workable}
 use Rattle.sched.specs.Extension.{wokenIn, woken, wakeAll, extended}
+use Rattle.laws_edf.specs.Run.{spans, bytes}
 use Rattle.laws_edf.specs.Orders.{jobAt}
 use Rattle.laws_extension.specs.Chain.{RankedJobs, KeptByRank}
 use Rattle.laws_extension.specs.Waking.Cursor.{NoneBefore}
@@ -46,7 +47,8 @@ pub record EndedBefore (x : ℕ) (deadlines : List ℕ) (first : ℕ) : Type 0 w
   pub within : first ≤ length deadlines
   pub over : 0 < first → getD deadlines (first - 1) 0 ≤ x
 
--- the table's set is the extended one, and `added` counts the slots that were woken
+-- the table's set is the extended one, its bytes are the run of earliest deadline first over that set, and `added` counts the slots that were woken
 pub record Extended (J : Jobs) (table : List ℕ) (added : ℕ) : Type 0 where
   pub set-is : awakeOf table ≡ extended J
+  pub table-is : table ≡ bytes (spans J) (awake (extended J)) (J .horizon) 0 (volume J)
   pub added-is : added ≡ length (woken J (leastSkeleton J))

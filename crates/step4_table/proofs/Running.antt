@@ -33,15 +33,25 @@ table-is-run J S p long full =
 module _ (releases deadlines volumes table units : List ℕ) (u : Units volumes units) where
   pub run-fills :
       (left′ table′ : List ℕ) → RunDone (spansOf releases deadlines) 0 units table left′ table′ → Fills releases deadlines volumes table table′
-  run-fills left′ table′ d J p long full =
-      let S = awake (awakeOf table) in
-      let same : spansOf releases deadlines ≡ spans J = sym (ap₂ spansOf (p .releases-are) (p .deadlines-are)) in
-      whole-table d
-      ∙ ap (λ (F : Spans). bytes F S (length table) 0 (stateOf units)) same
-      ∙ ap (λ (h : ℕ). bytes (spans J) S h 0 (stateOf units)) long
-      ∙ ap (bytes (spans J) S (J .horizon) 0) (u .same ∙ sym (ap stateOf (p .volumes-are)))
-      ∙ table-is-run J (awakeOf table) (p .passes) (awake-of-length table ∙ long) full
+  run-fills left′ table′ d =
+      record {
+        run-is = ran;
+        step-is = λ J p long full.
+            let same : spansOf releases deadlines ≡ spans J = sym (ap₂ spansOf (p .releases-are) (p .deadlines-are)) in
+            ran
+            ∙ ap (λ (F : Spans). bytes F S (length table) 0 (stateOf volumes)) same
+            ∙ ap (λ (h : ℕ). bytes (spans J) S h 0 (stateOf volumes)) long
+            ∙ ap (bytes (spans J) S (J .horizon) 0) (sym (ap stateOf (p .volumes-are)))
+            ∙ table-is-run J (awakeOf table) (p .passes) (awake-of-length table ∙ long) full;
+      }
+    where
+      S : ℕ → Bool
+      S = awake (awakeOf table)
 
-  pub fill-runnable : (ranks arrivals : List ℕ) → Fillable releases deadlines volumes ranks arrivals table → Runnable releases deadlines ranks arrivals units table
-  fill-runnable ranks arrivals f =
-      record { short = f .short; queued = record { orders = f .orders; few = f .few; room = omega (arith, f .few, u .long) } }
+      ran : table′ ≡ bytes (spansOf releases deadlines) S (length table) 0 (stateOf volumes)
+      ran = whole-table d ∙ ap (bytes (spansOf releases deadlines) S (length table) 0) (u .same)
+
+pub fill-runnable :
+    {releases deadlines volumes ranks arrivals units table : List ℕ} → Fillable releases deadlines volumes ranks arrivals table → length units ≡ 64 →
+    Runnable releases deadlines ranks arrivals units table
+fill-runnable f long = record { short = f .short; queued = record { orders = f .orders; few = f .few; room = omega (arith, f .few, long) } }

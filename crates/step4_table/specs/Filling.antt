@@ -4,11 +4,14 @@ use mathlib.Core.Path.{_≡_}
 use mathlib.Core.List.{List}
 use lib.ListN.{length}
 use Rattle.sched.specs.Jobs.{Jobs, totalVolume}
-use Rattle.sched.specs.Slots.{awakeOf}
+use Rattle.sched.specs.Slots.{awake, awakeOf}
 use Rattle.sched.specs.Workable.{workable}
 use Rattle.sched.specs.Table.{tableOf}
+use Rattle.laws_edf.specs.Run.{bytes}
+use Rattle.laws_edf.specs.Search.{stateOf}
 use Rattle.laws_edf.specs.Orders.{Orders}
 use Rattle.orders.specs.Lists.{ListsOf}
+use Rattle.queue.specs.Ranks.{spansOf}
 
 -- step 4 can be taken
 pub record Fillable (releases deadlines volumes ranks arrivals table : List ℕ) : Type 0 where
@@ -17,8 +20,9 @@ pub record Fillable (releases deadlines volumes ranks arrivals table : List ℕ)
   pub orders : Orders releases deadlines ranks arrivals
   pub short : length table < 65536
 
--- for every list in which all volume can be worked in the table's awake slots, step 4 has been taken
-abbrev pub Fills : List ℕ → List ℕ → List ℕ → List ℕ → List ℕ → Type 0
-Fills releases deadlines volumes table table′ =
-    (J : Jobs) → ListsOf J releases deadlines volumes → length table ≡ J .horizon → workable J (awakeOf table) ≡ totalVolume J
-    → table′ ≡ tableOf J (awakeOf table)
+-- each byte of the lent table, however long it is, is that of the run of earliest deadline first over the table's awake slots; and for every list in
+-- which all volume can be worked in these slots, step 4 has been taken
+pub record Fills (releases deadlines volumes table table′ : List ℕ) : Type 0 where
+  pub run-is : table′ ≡ bytes (spansOf releases deadlines) (awake (awakeOf table)) (length table) 0 (stateOf volumes)
+  pub step-is : (J : Jobs) → ListsOf J releases deadlines volumes → length table ≡ J .horizon → workable J (awakeOf table) ≡ totalVolume J
+      → table′ ≡ tableOf J (awakeOf table)

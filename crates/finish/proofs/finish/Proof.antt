@@ -17,7 +17,7 @@ same-length c = search needs
 returns : tie.Need-returns
 unfolding tableFrom sleepRule
 returns c = record {
-  bytes = λ J lists w long full. c .before .before .before .before .fill .ensures J lists long full;
+  bytes = λ J lists w long full. c .before .before .before .before .fill .ensures .step-is J lists long full;
   figures-are = c .cost-of .ensures;
 }
 

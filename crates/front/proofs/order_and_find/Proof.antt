@@ -58,7 +58,7 @@ find-requires : tie.Need-find-requires
 find-requires c κs =
     let r = ranked (c .before .before) in
     let s = lent r in
-    asked (s .pre .0) (s .pre .1) (r .rank .kept .1 .1 .0) (r .rank .kept .1 .1 .1 .0) (r .rank .ensures)
+    asked (s .pre .0) (s .pre .1) (r .rank .kept .1 .1 .0) (r .rank .kept .1 .1 .1 .0) (r .rank .ensures .orders)
 
 same-length : tie.Need-same-length
 same-length c = search needs
@@ -70,7 +70,7 @@ returns : tie.Need-returns
 returns c =
     let r = ranked (c .before .before .before) in
     let s = lent r in
-    found (s .pre .0) (s .pre .1) (r .rank .kept .1 .1 .0) (r .rank .kept .1 .1 .1 .0) (r .rank .ensures) (c .find .ensures)
+    found (s .pre .0) (s .pre .1) (r .rank .kept .1 .1 .0) (r .rank .kept .1 .1 .1 .0) (r .rank .ensures .orders) (c .find .ensures)
 
 pub order-and-find-spec : {M : Type 1} → statement M
 order-and-find-spec =

@@ -1,9 +1,10 @@
 -- `steps` meets its contract: each step hands the next what it asks for.
-use mathlib.Core.Path.{_≡_, refl}
+use mathlib.Core.Path.{_≡_, refl, ap, _∙_}
 use denote.Ref.{now}
 use Rattle.sched.specs.Jobs.{Jobs, jobsOf}
 use Rattle.sched.specs.Slots.{awakeOf}
 use Rattle.sched.specs.Skeleton.{leastSkeleton}
+use Rattle.step2_skeleton.specs.Marks.Laws.{awake-of-marked}
 use Rattle.step3_extend.specs.Turns.{Extended}
 use Rattle.planner.proofs.Stepping.{markable, extendable, finishable, stepped}
 use borrow.Author.Needs.{needs}
@@ -21,7 +22,9 @@ abbrev marked : tie.After-extend-arg → tie.After-mark
 marked c = c .before .before .before
 
 is-marked : (c : tie.After-mark) → awakeOf (c .mark .last .1 .1 .1 .1 .1 .0) ≡ leastSkeleton (listed (lent (c .before)))
-is-marked c = let s = lent (c .before) in c .mark .ensures (listed s) (markable (listed s) _ _ _ (s .pre) refl)
+is-marked c =
+    let s = lent (c .before) in
+    ap awakeOf (c .mark .ensures (listed s) (markable (listed s) _ _ _ (s .pre) refl)) ∙ awake-of-marked (leastSkeleton (listed s))
 
 is-extended : (c : tie.After-extend) → Extended (listed (lent (marked (c .before) .before))) (c .extend .last .1 .1 .1 .1 .1 .0) (c .extend .result)
 is-extended c =

@@ -1,6 +1,9 @@
 -- `step2_skeleton::draw_run` meets its contract: two stretches, one behind the other.
+use mathlib.Core.Path.{ap, _∙_}
+use Rattle.sched.specs.Slots.{idle}
+use Rattle.step2_skeleton.specs.Marks.{poured}
 use borrow.Author.Needs.{needs}
-use Rattle.step2_skeleton.proofs.Drawing.{drawn-run}
+use Rattle.step2_skeleton.proofs.Drawing.{run-drawn}
 use Rattle.step2_skeleton.proofs.draw_run.Statement.{statement}
 use Rattle.step2_skeleton.proofs.draw_run.Tie as tie
 
@@ -17,9 +20,10 @@ returns : tie.Need-returns
 returns c =
     let second = c .before .before in
     let first = second .before .before .before .before in
-    let a = first .before .before .before .args in
-    drawn-run (a .table .now) (first .fill .last .0) (second .fill2 .last .0) (a .s) (a .first) (a .end) (first .fill .ensures)
-    (second .fill2 .ensures)
+    let p = first .before .before .before in
+    let a = p .args in
+    second .fill2 .ensures ∙ ap (poured (a .first) (a .end) idle) (first .fill .ensures)
+    ∙ run-drawn (a .table .now) (a .s) (a .first) (a .end) (p .pre .0) (p .pre .1) (p .pre .2)
 
 pub draw-run-spec : {M : Type 1} → statement M
 draw-run-spec = tie.close (tie.spec fill-requires fill-requires-2 same-length returns)

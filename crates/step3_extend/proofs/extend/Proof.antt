@@ -34,7 +34,7 @@ ends-of-requires : tie.Need-ends-of-requires
 ends-of-requires c κs =
     let r = ran c in
     let made = r .before .before .before in
-    (begin-small (lent made .pre .0 .1) (made .units .ensures) (r .run .ensures), refl)
+    (begin-small (lent made .pre .0 .1) (r .run .last .1 .1 .1 .1 .1 .1 .0) (r .run .kept .1 .1 .1 .1 .1 .1 .0), refl)
 
 slice-aggregate-lost-in-all : tie.Need-slice-aggregate-lost-in-all
 slice-aggregate-lost-in-all c = search needs
@@ -43,7 +43,7 @@ lost-in-all-requires : tie.Need-lost-in-all-requires
 lost-in-all-requires c κs =
     let r = ran (c .before .before .before) in
     let made = r .before .before .before in
-    begin-room (lent made .pre .0 .1) (made .units .ensures) (r .run .ensures)
+    begin-room (lent made .pre .0 .1) (made .units .ensures) (r .run .last .1 .1 .1 .1 .1 .0) (r .run .kept .1 .1 .1 .1 .1 .0)
 
 slice-aggregate-grow-by-rank : tie.Need-slice-aggregate-grow-by-rank
 slice-aggregate-grow-by-rank c = search needs

@@ -14,7 +14,7 @@ slice-aggregate-run c = search needs
 run-requires : tie.Need-run-requires
 run-requires c κs =
     let start = c .before .before .before .before .before .before .before .before .before in
-    fill-runnable _ _ _ _ _ (c .before .before .units .ensures) _ _ (start .pre)
+    fill-runnable (start .pre) (c .before .before .units .ensures .long)
 
 same-length : tie.Need-same-length
 same-length c = search needs
