@@ -13,26 +13,26 @@ use sched::Checked;
 use sched::Refusal;
 
 // A field's value, and the offset behind the field.
-pub struct Found {
-    pub value: u16,
-    pub next: usize,
+struct Found {
+    value: u16,
+    next: usize,
 }
 
 // The fields of a job, and the length of its entry.
-pub struct Fields {
-    pub release: u16,
-    pub deadline: u16,
-    pub volume: u16,
-    pub size: usize,
+pub(crate) struct Fields {
+    pub(crate) release: u16,
+    pub(crate) deadline: u16,
+    pub(crate) volume: u16,
+    pub(crate) size: usize,
 }
 
-pub enum Entry {
+pub(crate) enum Entry {
     Read(Fields),
     Refused(Refusal),
 }
 
 // The number in the two bytes at an offset.
-pub fn word(bytes: &[u8], at: usize) -> u16
+pub(crate) fn word(bytes: &[u8], at: usize) -> u16
     requires { ⌜ at + 2 ≤ length (now bytes) ⌝ }
     ensures { λ r. ⌜ r ≡ word (drop at (now (bytes .entry))) ⌝ }
 {
@@ -72,7 +72,7 @@ fn size(map: u8) -> usize
 }
 
 // The field at an offset: its value, or the absent value if it does not stand.
-pub fn field(stands: bool, absent: u16, bytes: &[u8], at: usize) -> Found
+fn field(stands: bool, absent: u16, bytes: &[u8], at: usize) -> Found
     requires { ⌜ at + width stands ≤ length (now bytes) ⌝ }
     ensures { λ f. ⌜ FoundAt stands absent at (now (bytes .entry)) f ⌝ }
 {
@@ -90,14 +90,14 @@ pub fn field(stands: bool, absent: u16, bytes: &[u8], at: usize) -> Found
 }
 
 // Whether a field stands with its absent value, given the value read.
-pub fn is_redundant(stands: bool, absent: u16, x: u16) -> bool
+fn is_redundant(stands: bool, absent: u16, x: u16) -> bool
     ensures { λ r. ⌜ r ≡ (stands && eqb x absent) ⌝ }
 {
     if stands { x == absent } else { false }
 }
 
 // 11 and 13 for the map byte at offset `at` of an input of `total` bytes; maps from `maps` on are unknown.
-pub fn check_map(maps: u8, total: usize, at: usize, bytes: &[u8]) -> Checked
+fn check_map(maps: u8, total: usize, at: usize, bytes: &[u8]) -> Checked
     ensures { λ c. ⌜ c ≡ mapCheck maps total at (now (bytes .entry)) ⌝ }
 {
     if bytes.len() == 0 {
@@ -110,7 +110,7 @@ pub fn check_map(maps: u8, total: usize, at: usize, bytes: &[u8]) -> Checked
 }
 
 // The fields of an entry that is whole, refused where one stands with its absent value; its map byte stands at offset `at` of the input.
-pub fn read_fields(h: u16, at: usize, bytes: &[u8]) -> Entry
+fn read_fields(h: u16, at: usize, bytes: &[u8]) -> Entry
     requires { ⌜ WholeEntry at (now bytes) ⌝ }
     ensures { λ e. ⌜ e ≡ entryOf (redundancyCheck h at (now (bytes .entry))) h (now (bytes .entry)) ⌝ }
 {
@@ -153,7 +153,7 @@ fn read_job(h: u16, job: usize, at: usize, bytes: &[u8]) -> Entry
 }
 
 // A job's entry, read and checked. It starts at offset `at` of an input of `total` bytes, and `bytes` are all that follow.
-pub fn read(h: u16, total: usize, job: usize, at: usize, bytes: &[u8]) -> Entry
+pub(crate) fn read(h: u16, total: usize, job: usize, at: usize, bytes: &[u8]) -> Entry
     requires { ⌜ at + length (now bytes) ≡ total ⌝ }
     ensures { λ e. ⌜ e ≡ entryOf (entryCheck jobCheck h total job at (now (bytes .entry))) h (now (bytes .entry)) ⌝ }
 {
