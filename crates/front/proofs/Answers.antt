@@ -1,8 +1,7 @@
 -- The ways to an answer: a faulty list, a short table, an overloaded interval; or none yet.
 use Prim.Native.Nat.{ℕ}
-use mathlib.Core.Path.{_≡_, sym, ap, _∙_}
+use mathlib.Core.Path.{_≡_, sym, _∙_}
 use mathlib.Core.List.{List}
-use mathlib.Core.Option.{Option}
 use native.Mathlib.Omega.{arith}
 use Rattle.sched.specs.Jobs.{jobsFrom}
 use Rattle.sched.specs.Checks.{lengthCheck, listCheck}
@@ -18,21 +17,17 @@ use Rattle.step1_overload.specs.declared.Shown.{Shown}
 use Rattle.step1_overload.specs.declared.Shown.the-variants.{Nothing, At}
 use Rattle.front.specs.declared.Early.{Early}
 use Rattle.front.specs.declared.Early.the-variants.{Ended, Open}
-use Rattle.front.specs.Early.{asEarly, EarlyPromise, AllPass, Found, Begins}
+use Rattle.front.specs.Early.{AllPass, Found, Begins}
 use Rattle.front.specs.Early.Laws.{early-same}
 
 ended-not-open : {A : Type 0} (o : Outcome) → _≡_ {A = Early} (Ended o) Open → A
 ended-not-open o e = let z : _≡_ {A = ℕ} 0 1 = cc in absurd (omega arith)
 
--- the answer for what the definition gives
-early-by : {given answer : Option Outcome} → given ≡ answer → EarlyPromise (asEarly given) (asEarly answer)
-early-by e = early-same (ap asEarly (sym e))
-
 module _ (h : ℕ) (rs ds ps : List ℕ) (have : ℕ) (ranks arrivals : List ℕ) where
   pub list-refused : (r : Refusal) → listCheck h rs ds ps ≡ Faulty r → Begins h rs ds ps have (Ended (Refused r)) ranks arrivals
   list-refused r e =
       record {
-        early = λ q start. early-by (early-faulty (jobsFrom h q start rs ds ps) have r e);
+        early = λ q start. early-same (early-faulty (jobsFrom h q start rs ds ps) have r e);
         orders = λ z. ended-not-open (Refused r) z;
       }
 
@@ -43,7 +38,7 @@ module _ (h : ℕ) (rs ds ps : List ℕ) (have : ℕ) (ranks arrivals : List ℕ
     pub table-refused : (r : Refusal) → lengthCheck have h ≡ Faulty r → Begins h rs ds ps have (Ended (Refused r)) ranks arrivals
     table-refused r l =
         record {
-          early = λ q start. early-by (early-length (jobsFrom h q start rs ds ps) have r e l);
+          early = λ q start. early-same (early-length (jobsFrom h q start rs ds ps) have r e l);
           orders = λ z. ended-not-open (Refused r) z;
         }
 
@@ -52,7 +47,7 @@ module _ (h : ℕ) (rs ds ps : List ℕ) (have : ℕ) (ranks arrivals : List ℕ
       shown-ends i a =
           record {
             early = λ q start.
-                early-by (early-overload (jobsFrom h q start rs ds ps) have (checked q start) (length-good have h l) i (found-at _ i (sym a ∙ f .shown q start)));
+                early-same (early-overload (jobsFrom h q start rs ds ps) have (checked q start) (length-good have h l) i (found-at _ i (sym a ∙ f .shown q start)));
             orders = λ z. ended-not-open (Overloaded i) z;
           }
 
@@ -60,6 +55,6 @@ module _ (h : ℕ) (rs ds ps : List ℕ) (have : ℕ) (ranks arrivals : List ℕ
       nothing-opens a =
           record {
             early = λ q start.
-                early-by (early-none (jobsFrom h q start rs ds ps) have (checked q start) (length-good have h l) (found-none _ (sym a ∙ f .shown q start)));
+                early-same (early-none (jobsFrom h q start rs ds ps) have (checked q start) (length-good have h l) (found-none _ (sym a ∙ f .shown q start)));
             orders = λ z. f .orders;
           }

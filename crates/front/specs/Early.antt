@@ -1,4 +1,5 @@
--- What is asked and promised before any slot is planned, and the number and values of each answer. Each promise holds for every wake cost and every state before slot 0.
+-- What is asked and promised before any slot is planned, and the number and values of each answer. Each promise holds for every wake cost and
+-- every state before slot 0.
 use Prim.Native.Nat.{ℕ, _≤_}
 use mathlib.Core.Path.{_≡_}
 use mathlib.Core.Bool.{Bool}

@@ -42,7 +42,7 @@ pub enum Refusal {
     TooRare(usize),
 }
 
-// Whether a list, or a job, passes the list checks.
+// The answer of a check: it passes, or the first fault.
 pub enum Checked {
     Passed,
     Refused(Refusal),
