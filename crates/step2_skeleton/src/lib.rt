@@ -171,7 +171,7 @@ fn fill(table: &mut [u8], from: usize, to: usize, byte: u8)
     }
 }
 
-// The slots from s on: asleep up to slot `first`, awake from there up to slot `end`.
+// The slots from s on: asleep up to slot `first`, awake from there up to slot `end`. Other slots keep their bytes.
 fn draw_run(table: &mut [u8], s: usize, first: usize, end: usize)
     requires { ⌜ (s ≤ first) × (first ≤ end) × (end ≤ length (now table)) ⌝ }
     ensures { λ r. ⌜ now (table .exit) ≡ withRun s first end (now (table .entry)) ⌝ }

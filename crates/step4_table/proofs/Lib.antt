@@ -1,2 +1,3 @@
 pub mod AsRun
+pub mod Behind
 pub mod Running

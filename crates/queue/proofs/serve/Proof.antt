@@ -31,7 +31,7 @@ slice-read-left : tie.Need-slice-read-left
 slice-read-left c = (start c .pre (omega arith)) .job
 
 sub-left : tie.Need-sub-left
-sub-left c = (start c .pre (omega arith)) .unit
+sub-left c = let can = start c .pre (omega arith) in omega (arith, can .unit)
 
 slice-write-left : tie.Need-slice-write-left
 slice-write-left c = (start c .pre (omega arith)) .job
