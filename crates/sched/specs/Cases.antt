@@ -37,6 +37,10 @@ jobs h q js = jobsOf h q (map (λ x. x .r) js) (map (λ x. x .d) js) (map (λ x.
 abbrev pub third : Jobs
 third = jobs 10 3 (job 0 3 1 ∷ job 8 10 2 ∷ job 0 10 5 ∷ [])
 
+-- and its table, of which 01 also gives the plan record
+abbrev pub thirdTable : List ℕ
+thirdTable = 0 ∷ 2 ∷ 2 ∷ 2 ∷ 2 ∷ 2 ∷ 255 ∷ 255 ∷ 1 ∷ 1 ∷ []
+
 -- a worked plan: the slots of the skeleton, the slots woken in order, the table, the number returned and the values with it. Of an overloaded
 -- list 01 gives only the last two, and the table stays as it was lent, here H bytes of 7
 pub record Worked : Type 0 where
@@ -93,7 +97,7 @@ starred =
     ∷ plans (jobs 12 1 (job 0 4 2 ∷ job 6 10 2 ∷ [])) (4 ∷ 5 ∷ []) (3 ∷ 2 ∷ 6 ∷ 7 ∷ [])
     (255 ∷ 255 ∷ 0 ∷ 0 ∷ 254 ∷ 254 ∷ 1 ∷ 1 ∷ 255 ∷ 255 ∷ 255 ∷ 255 ∷ []) (7 ∷ 6 ∷ 1 ∷ 4 ∷ [])
     ∷ plans third (3 ∷ 9 ∷ []) (2 ∷ 1 ∷ 0 ∷ 4 ∷ 5 ∷ 8 ∷ [])
-    (0 ∷ 2 ∷ 2 ∷ 2 ∷ 2 ∷ 2 ∷ 255 ∷ 255 ∷ 1 ∷ 1 ∷ []) (14 ∷ 8 ∷ 2 ∷ 6 ∷ [])
+    thirdTable (14 ∷ 8 ∷ 2 ∷ 6 ∷ [])
     ∷ plans (jobs 8 2 (job 2 5 3 ∷ [])) (5 ∷ []) (4 ∷ 3 ∷ 2 ∷ [])
     (255 ∷ 255 ∷ 0 ∷ 0 ∷ 0 ∷ 254 ∷ 255 ∷ 255 ∷ []) (6 ∷ 4 ∷ 1 ∷ 3 ∷ [])
     ∷ overloads (jobs 8 1 (job 2 5 4 ∷ [])) 2 5
