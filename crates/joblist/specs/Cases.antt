@@ -4,30 +4,39 @@ use Prim.Native.Nat.{ℕ}
 use mathlib.Core.Path.{_≡_, refl}
 use mathlib.Core.List.{List, [], _∷_, _++_}
 use lib.ListN.{length, replicate}
-use Rattle.sched.specs.Jobs.{Jobs, jobsOf}
+use Rattle.sched.specs.Jobs.{Jobs, jobsOf, count}
 use Rattle.sched.specs.Checks.{Passes, checkFrom}
 use Rattle.sched.specs.Checks.Laws.{passed-passes}
 use Rattle.sched.specs.Cases.{third}
 use Rattle.sched.specs.declared.Refusal.the-variants.{Redundant, BadJob, LeftOver}
-use Rattle.sched.specs.declared.Checked.the-variants.{Passed, Refused}
+use Rattle.sched.specs.declared.Checked.the-variants.{Refused}
 use Rattle.joblist.specs.Bytes.{entryBytes, entriesBytes, spelling}
 use Rattle.joblist.specs.Entries.{mapCheck, redundancyCheck, entryCheck, entriesCheck, column}
-use Rattle.joblist.specs.Reading.{readCheck, listOf}
+use Rattle.joblist.specs.Reading.{readCheck, listOf, reading}
+use Rattle.joblist.specs.declared.ListRead.the-variants.{Read}
 
 -- "The third case in hex"
 abbrev thirdBytes : List ℕ
-thirdBytes = 0x0A ∷ 0x00 ∷ 0x03 ∷ 0x00 ∷ 0x03 ∷ 0x02 ∷ 0x03 ∷ 0x00 ∷ 0x05 ∷ 0x08 ∷ 0x00 ∷ 0x02 ∷ 0x00 ∷ 0x04 ∷ 0x05 ∷ 0x00 ∷ []
+thirdBytes =
+    0x0A ∷ 0x00 ∷ 0x03 ∷ 0x00 ∷ 0x03 ∷ 0x02 ∷ 0x03 ∷ 0x00 ∷ 0x05 ∷ 0x08 ∷ 0x00 ∷ 0x02 ∷ 0x00 ∷ 0x04 ∷ 0x05 ∷ 0x00 ∷ []
 
 pub third-spelled : spelling third ≡ thirdBytes
 unfolding spelling entriesBytes entryBytes
 third-spelled = refl
 
-pub third-passes : readCheck thirdBytes 3 3 3 ≡ Passed
-unfolding mapCheck redundancyCheck entryCheck entriesCheck
-third-passes = refl
-
-pub third-read : listOf thirdBytes ≡ third
+pub third-list : listOf thirdBytes ≡ third
 unfolding column
+third-list = refl
+
+-- into lent lists with an entry more than it has jobs
+pub third-read : reading thirdBytes (replicate 4 9) (replicate 4 9) (replicate 4 9) ≡
+    record {
+      answer = Read (record { h = third .horizon; q = third .wake; count = count third });
+      releases = third .releases ++ (9 ∷ []);
+      deadlines = third .deadlines ++ (9 ∷ []);
+      volumes = third .volumes ++ (9 ∷ []);
+    }
+unfolding reading mapCheck redundancyCheck entryCheck entriesCheck column
 third-read = refl
 
 -- 64 jobs (1, 2, 2) in three slots: each has all three fields

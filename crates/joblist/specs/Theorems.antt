@@ -101,20 +101,19 @@ place-small bytes r d p x e = subst (PlaceWithin 453) e (read-within bytes r d p
 -- 5. "Given as bytes, it passes if the bytes are the one spelling of such a list": the reader takes bytes exactly where they spell a list that
 -- passes the list checks and the lent lists have room for it; they spell no other, and by `spelling-list` it is the list that is read.
 
-pub record SpellOne (bytes : List ℕ) (J : Jobs) : Type 0 where
+pub record SpellsOnly (bytes : List ℕ) (J : Jobs) : Type 0 where
   pub passes : Passes J
   pub asleep : J .start ≡ false
   pub spelled : bytes ≡ spelling J
   pub only : (K : Jobs) → Passes K → K .start ≡ false → bytes ≡ spelling K → K ≡ J
 
 pub read-iff-spelled : (bytes : List ℕ) (r d p : ℕ) → AreBytes bytes →
-    (readCheck bytes r d p ≡ Passed) ↔ ((J : Jobs) × (SpellOne bytes J × LentRoom (count J) r d p))
+    (readCheck bytes r d p ≡ Passed) ↔ ((J : Jobs) × (SpellsOnly bytes J × LentRoom (count J) r d p))
 read-iff-spelled bytes r d p small = (spells, taken)
   where
-    spells : readCheck bytes r d p ≡ Passed → (J : Jobs) × (SpellOne bytes J × LentRoom (count J) r d p)
+    spells : readCheck bytes r d p ≡ Passed → (J : Jobs) × (SpellsOnly bytes J × LentRoom (count J) r d p)
     spells e =
-        let g = read-passed bytes r d p e in
-        (
+        let g = read-passed bytes r d p e in (
           listOf bytes,
           (
             record {
@@ -127,7 +126,7 @@ read-iff-spelled bytes r d p small = (spells, taken)
           ),
         )
 
-    taken : (J : Jobs) × (SpellOne bytes J × LentRoom (count J) r d p) → readCheck bytes r d p ≡ Passed
+    taken : (J : Jobs) × (SpellsOnly bytes J × LentRoom (count J) r d p) → readCheck bytes r d p ≡ Passed
     taken (J, (one, room)) = rw (one .spelled) (spelling-read J r d p (one .passes) room)
 
 -- The same of the writer itself, with a buffer that is long enough

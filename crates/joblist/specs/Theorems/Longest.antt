@@ -27,8 +27,11 @@ pub longest-list : LongestSpelling 453
 longest-list =
     record {
       most = λ J g.
-          omega (arith, read-short (spelling J) 64 64 64
-          (spelling-read J 64 64 64 g (record { releases = g .few; deadlines = g .few; volumes = g .few })));
+          omega (
+            arith,
+            read-short (spelling J) 64 64 64
+                (spelling-read J 64 64 64 g (record { releases = g .few; deadlines = g .few; volumes = g .few })),
+          );
       reached = (longest, refl, longest-passes, longest-length);
     }
 

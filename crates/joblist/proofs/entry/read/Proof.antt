@@ -2,7 +2,6 @@
 use borrow.Author.Needs.{needs}
 use mathlib.Core.Path.{sym, _∙_}
 use native.Mathlib.Omega.{arith}
-use Rattle.joblist.specs.Entries.{knownMaps}
 use Rattle.joblist.specs.Laws.Entry.{map-passed}
 use Rattle.joblist.proofs.Fields.{map-refused, field-missing, job-answers}
 use Rattle.joblist.proofs.entry.read.Statement.{statement}
@@ -18,7 +17,7 @@ shared-slice-read-size : tie.Need-shared-slice-read-size
 shared-slice-read-size c =
     let map = c .before .before .before in
     let a = map .before .before .args in
-    omega (arith, map-passed knownMaps (a .total) (a .at) (a .bytes .now) (sym (map .check-map .ensures) ∙ c .before .enum-told .given .1) .some)
+    omega (arith, map-passed _ (a .total) (a .at) (a .bytes .now) (sym (map .check-map .ensures) ∙ c .before .enum-told .given .1) .some)
 
 size-requires : tie.Need-size-requires
 size-requires c κs = search needs
