@@ -3,7 +3,7 @@ use crate::small::Small;
 use crate::small::bit;
 use crate::small::digit;
 ghost use mathlib.Core.Path.{_≡_};
-ghost use Prim.Native.Nat.{_≤_, max};
+ghost use Prim.Native.Nat.{_+_, _*_, _%_, _^_, _≤_, max};
 
 // Whether slot t is in the set and may run job j: j has a unit left (its digit of `left` is not 0), and r ≤ t < d.
 pub fn can_run(l: Small, set: u32, left: u32, j: u32, t: u32) -> bool {
@@ -11,7 +11,9 @@ pub fn can_run(l: Small, set: u32, left: u32, j: u32, t: u32) -> bool {
 }
 
 // The units left once job j has run for a slot: `left` with digit j lowered by one. Only asked where that digit is not 0.
-pub fn after(left: u32, j: u32) -> u32 {
+pub fn after(left: u32, j: u32) -> u32
+    ensures { λ r. ⌜ (r + 2 ^ (j % 8 * 4)) % 2 ^ 32 ≡ left ⌝ }
+{
     let one: u32 = 1;
     std::num::wrapping_sub_u32(left, one << (j % 8 * 4))
 }

@@ -22,8 +22,8 @@ fn awake_slot(q: u16, later_awake: bool) -> u32
     if later_awake { 1 } else { 1 + q as u32 }
 }
 
-// The least energy of the slots below `slots` over all ways to complete a feasible table whose later part leaves the units `left` and
-// begins with an awake slot or not; NONE or more if there is no way. Slot `slots - 1` holds 254, 255 or one of the jobs below `jobs`,
+// The least energy of the slots below `slots` over all ways to complete a feasible table whose later part leaves the units `left`
+// and begins with an awake slot or not; NONE or more if there is no way. Slot `slots - 1` holds 254, 255 or one of the jobs below `jobs`,
 // every earlier slot 254, 255 or any job. The bound is for safety, so that a slot's cost can be added.
 fn least(l: Small, left: u32, slots: u32, jobs: u32, later_awake: bool) -> u32
     requires { ⌜ (jobs ≤ 4) × (slots ≤ 8) ⌝ }
