@@ -1,2 +1,3 @@
 -- What the contracts of the exhaustive search cite.
 pub mod Bounds
+pub mod Digits

@@ -1,5 +1,6 @@
 // Document 01's steps on lists of at most four jobs and eight slots, by trying every set of slots and
 // every placement. Test code: it is held against the planner, and shares no function with it.
+// What a function yields is said above it and tested by `test_plans`; it is proved only where its contract has an equation.
 ghost use Rattle.test_exhaustive.specs.Bounds.{Bounded};
 
 mod small; // small.rt: a small list packed in numbers
@@ -15,7 +16,8 @@ pub use small::Small;
 pub use small::digit;
 pub use small::volume;
 
-// A list's outcome: of an overloaded list a and b, of another the rest; what does not apply is 0.
+// A list's outcome by document 01: overloaded with the interval shown, a and b, or planned with energy, awake slots, runs, added and the
+// table. What does not apply is 0.
 pub struct Solved {
     pub overloaded: bool,
     pub a: u32,
@@ -24,11 +26,11 @@ pub struct Solved {
     pub awake: u32,
     pub runs: u32,
     pub added: u32,
-    // Slot t in byte t.
+    // Slot t in byte t; slots from h on are asleep.
     pub table: u64,
 }
 
-// Steps 1 to 5. Its contract only bounds the figures; that they are right is what the comparison tests.
+// The outcome of steps 1 to 5. The contract only bounds the figures; that they are right is what the comparison tests.
 pub fn solve(l: Small) -> Solved
     ensures { λ r. ⌜ Bounded r ⌝ }
 {

@@ -3,13 +3,14 @@ use crate::small::Small;
 use crate::small::digit;
 ghost use Prim.Native.Nat.{_<_, _≤_};
 
+// An overloaded interval, from a up to but without b; where none is found, a and b are 0.
 pub struct Found {
     pub found: bool,
     pub a: u32,
     pub b: u32,
 }
 
-// Job j's volume if its span lies between a and b, else 0.
+// Job j's volume if a ≤ r and d ≤ b, else 0. The bound is for safety, so that four of them can be added.
 fn inside(l: Small, j: u32, a: u32, b: u32) -> u32
     ensures { λ r. ⌜ r < 16 ⌝ }
 {
@@ -19,13 +20,14 @@ fn inside(l: Small, j: u32, a: u32, b: u32) -> u32
     0
 }
 
+// Whether the jobs with a ≤ r and d ≤ b have more volume together than b - a.
 fn overloaded(l: Small, a: u32, b: u32) -> bool
     requires { ⌜ a ≤ b ⌝ }
 {
     b - a < inside(l, 0, a, b) + inside(l, 1, a, b) + inside(l, 2, a, b) + inside(l, 3, a, b)
 }
 
-// The greatest start of an overloaded interval that ends at b.
+// The overloaded interval that ends at b and has the greatest start, if there is one.
 fn shown_at(l: Small, b: u32) -> Found {
     let mut a = b;
     while 0 < a {
@@ -41,6 +43,7 @@ fn shown_at(l: Small, b: u32) -> Found {
     }
 }
 
+// Step 1: the interval shown, if there is an overloaded one. It has the least end and, among those, the greatest start.
 pub fn shown(l: Small) -> Found {
     for b in 1..9 {
         if b <= l.h {

@@ -2,27 +2,29 @@
 use crate::placement::after;
 use crate::placement::can_run;
 use crate::small::Small;
-ghost use Prim.Native.Nat.{_≤_, _+_, _*_};
+ghost use mathlib.Core.Path.{_≡_};
+ghost use Prim.Native.Nat.{_≤_, _+_, _*_, min};
 
-// This much or more stands for no table at all; eight slots cost less.
+// This much or more stands for no table at all; every table of eight slots costs less.
 pub const NONE: u32 = 1000000;
 
 fn lesser(a: u32, b: u32) -> u32
-    ensures { λ r. ⌜ r ≤ b ⌝ }
+    ensures { λ r. ⌜ r ≡ min a b ⌝ }
 {
     if a < b { a } else { b }
 }
 
-// What an awake slot costs: a run is paid in its last slot.
+// What an awake slot costs: 1, and q more if no awake slot follows it, for here a run is paid in its last slot.
+// The bound is for safety, so that energies can be added.
 fn awake_slot(q: u16, later_awake: bool) -> u32
     ensures { λ r. ⌜ r ≤ 65536 ⌝ }
 {
     if later_awake { 1 } else { 1 + q as u32 }
 }
 
-// The least energy of the slots below `slots` over all ways to complete a table whose later part
-// leaves the units `left`. Slot `slots - 1` holds 254, 255 or one of the jobs below `jobs`, every
-// earlier slot 254, 255 or any job.
+// The least energy of the slots below `slots` over all ways to complete a feasible table whose later part leaves the units `left`
+// and begins with an awake slot or not; NONE or more if there is no way. Slot `slots - 1` holds 254, 255 or one of the jobs below `jobs`,
+// every earlier slot 254, 255 or any job. The bound is for safety, so that a slot's cost can be added.
 fn least(l: Small, left: u32, slots: u32, jobs: u32, later_awake: bool) -> u32
     requires { ⌜ (jobs ≤ 4) × (slots ≤ 8) ⌝ }
     ensures { λ r. ⌜ r ≤ 1000000 + 65536 * slots ⌝ }
@@ -46,6 +48,7 @@ fn least(l: Small, left: u32, slots: u32, jobs: u32, later_awake: bool) -> u32
     lesser(without, here + least(l, after(left, j), t, 4, true))
 }
 
+// The least energy of a feasible table, or NONE or more where no table is feasible. The contract only bounds it.
 pub fn least_energy(l: Small) -> u32
     ensures { λ r. ⌜ r ≤ 1524288 ⌝ }
 {

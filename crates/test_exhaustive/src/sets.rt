@@ -4,13 +4,15 @@ use crate::small::bit;
 use crate::small::digit;
 ghost use Prim.Native.Nat.{_<_, _≤_};
 
+// The energy of a set, its number of slots, and its number of runs.
 pub struct Cost {
     pub energy: u32,
     pub awake: u32,
     pub runs: u32,
 }
 
-// 1 where slot t is awake after a sleeping slot, else 0; before slot 0 the processor sleeps.
+// 1 where slot t is in the set and the one before it is not, else 0: a run begins. Before slot 0 the processor sleeps.
+// The bound is for safety, so that eight of them can be added.
 fn starts(set: u32, t: u32) -> u32
     ensures { λ r. ⌜ r < 2 ⌝ }
 {
@@ -20,7 +22,7 @@ fn starts(set: u32, t: u32) -> u32
     bit(set, t)
 }
 
-// What slot t adds to the energy.
+// What slot t adds to the energy: 0 asleep, 1 + q where a run begins, else 1. The bound is for safety, so that eight of them can be added.
 fn spent(q: u16, set: u32, t: u32) -> u32
     ensures { λ r. ⌜ r ≤ 65536 ⌝ }
 {
@@ -30,6 +32,7 @@ fn spent(q: u16, set: u32, t: u32) -> u32
     bit(set, t)
 }
 
+// What the slots below 8 of a set cost. The contract only bounds the figures.
 pub fn cost_of(q: u16, set: u32) -> Cost
     ensures { λ r. ⌜ (r .energy ≤ 524288) × (r .awake ≤ 8) × (r .runs ≤ 8) ⌝ }
 {
@@ -48,7 +51,7 @@ pub fn cost_of(q: u16, set: u32) -> Cost
     }
 }
 
-// Whether the set has a slot among r-1 to d of job j, as far as these lie below h.
+// Whether the set has a slot among r-1 to d of job j, as far as these lie in 0 to h-1.
 fn touches(l: Small, j: u32, set: u32) -> bool {
     for t in 0..8 {
         if t < l.h && digit(l.r, j) <= t + 1 && t <= digit(l.d, j) && bit(set, t) == 1 {
@@ -58,6 +61,7 @@ fn touches(l: Small, j: u32, set: u32) -> bool {
     false
 }
 
+// Whether the set is a skeleton: it has such a slot for each of the n jobs.
 fn is_skeleton(l: Small, set: u32) -> bool {
     for j in 0..4 {
         if j < l.n && !touches(l, j, set) {
@@ -67,7 +71,7 @@ fn is_skeleton(l: Small, set: u32) -> bool {
     true
 }
 
-// Whether x is asleep in the first slot in which the two sets differ.
+// Whether the two sets differ in a slot below 8, and x is asleep in the first such slot.
 fn precedes(x: u32, y: u32) -> bool {
     for t in 0..8 {
         if bit(x, t) != bit(y, t) {
@@ -77,14 +81,15 @@ fn precedes(x: u32, y: u32) -> bool {
     false
 }
 
-// Whether x costs less than y, or as much and comes first.
+// Whether x costs less than y, or as much and is asleep in the first slot in which they differ.
 fn better(q: u16, x: u32, y: u32) -> bool {
     let a = cost_of(q, x);
     let b = cost_of(q, y);
     a.energy < b.energy || a.energy == b.energy && precedes(x, y)
 }
 
-// Step 2. All slots together are a skeleton of every list.
+// Step 2: the skeleton of least energy and, among equals, the one that is asleep at the first slot where two differ.
+// All slots below h together are a skeleton of every list, so the search begins with them.
 pub fn least_skeleton(l: Small) -> u32 {
     let all = 255 >> (8 - l.h % 9);
     let mut best = all;

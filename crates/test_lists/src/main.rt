@@ -1,6 +1,8 @@
 // Job lists read and written: the list worked out in hex, each refusal at its first and its last place, the longest list, and the
 // list in hex with one byte changed. `stdout` was worked out apart from this program.
+ghost use mathlib.Core.Path.{_≡_};
 ghost use Prim.Native.Nat.{_≤_};
+ghost use lib.ListN.{take};
 use joblist::ListHeader;
 use joblist::ListRead;
 use joblist::ListWritten;
@@ -11,7 +13,8 @@ mod longest; // longest.rt: the longest list
 // Three jobs: (0,3,1) (8,10,2) (0,10,5), horizon 10, wake cost 3.
 const EXAMPLE: [u8; 16] = [10, 0, 3, 0, 3, 2, 3, 0, 5, 8, 0, 2, 0, 4, 5, 0];
 
-// Reads into the three lists, and writes what was read.
+// Reads into the three lists, and prints a line: `read`, then what `write_back` prints of a list that was read, or the refusal and
+// whether each list is as it was lent.
 fn read_into(bytes: &[u8], releases: &mut [u16], deadlines: &mut [u16], volumes: &mut [u16]) {
     show::text(b"read");
     match joblist::read(bytes, releases, deadlines, volumes) {
@@ -22,10 +25,13 @@ fn read_into(bytes: &[u8], releases: &mut [u16], deadlines: &mut [u16], volumes:
 }
 
 // The first n entries of a list, or all where it is shorter.
-fn first(list: &[u16], n: usize) -> &[u16] {
+fn first(list: &[u16], n: usize) -> &[u16]
+    ensures { λ r. ⌜ now r ≡ take n (now (list .entry)) ⌝ }
+{
     if n <= list.len() { &list[..n] } else { list }
 }
 
+// Prints a list that was read, whether writing it gives the bytes read, and for each lent list whether its entries past the count were kept.
 fn write_back(
     list: ListHeader,
     bytes: &[u8],
@@ -45,6 +51,7 @@ fn write_back(
     show::all_kept(list.count, releases, deadlines, volumes);
 }
 
+// Writes to 454 bytes that hold 9, and prints the length and whether these are the bytes read and the next one is kept, or the refusal.
 fn write_same(h: u16, q: u16, bytes: &[u8], releases: &[u16], deadlines: &[u16], volumes: &[u16]) {
     let mut out = [9u8; 454];
     match joblist::write(h, q, releases, deadlines, volumes, &mut out) {
@@ -53,7 +60,7 @@ fn write_same(h: u16, q: u16, bytes: &[u8], releases: &[u16], deadlines: &[u16],
     }
 }
 
-// Reads into lists of these lengths.
+// Reads into lists of these lengths that hold 7777; the bounds are for safety, since there are 65 entries.
 fn read_with(bytes: &[u8], releases: usize, deadlines: usize, volumes: usize)
     requires { ⌜ (releases ≤ 65) × (deadlines ≤ 65) × (volumes ≤ 65) ⌝ }
 {
@@ -68,10 +75,12 @@ fn read_with(bytes: &[u8], releases: usize, deadlines: usize, volumes: usize)
     );
 }
 
+// Reads into lists of 64 entries.
 fn read(bytes: &[u8]) {
     read_with(bytes, 64, 64, 64);
 }
 
+// Writes a list to `out`, and prints a line: `write`, then the length or the refusal, then what `out` holds.
 fn write(h: u16, q: u16, releases: &[u16], deadlines: &[u16], volumes: &[u16], out: &mut [u8]) {
     show::text(b"write");
     match joblist::write(h, q, releases, deadlines, volumes, out) {
@@ -121,7 +130,7 @@ fn first_jobs() {
     read(b"\x0a\x00\x03\x00\x00\x00");
 }
 
-// The longest list with one byte changed.
+// Reads the first n bytes of the longest list and one byte more, with the byte at one offset changed.
 fn long_with(at: usize, value: usize, n: usize) {
     let mut bytes = longest::LONGEST;
     show::put(&mut bytes, at, value);
@@ -161,7 +170,7 @@ fn short_heads() {
     read_with(b"\x0a\x00\x03\x00\x01\x00", 0, 0, 0);
 }
 
-// The three jobs of the example, with so many deadlines and volumes.
+// Writes the three jobs of the example, with only so many deadlines and volumes.
 fn write_example(h: u16, deadlines: usize, volumes: usize, out: &mut [u8]) {
     let rs = [0u16, 8, 0];
     let ds = [3u16, 10, 10];
@@ -182,7 +191,7 @@ fn writer() {
     write_example(10, 0, 3, &mut out);
 }
 
-// No job, or just the one.
+// Writes no job (n = 0), or just the one.
 fn write_few(n: usize, h: u16, q: u16, r: u16, d: u16, p: u16, out: &mut [u8]) {
     let rs = [r];
     let ds = [d];
@@ -200,7 +209,7 @@ fn short_writer() {
     write_few(0, 4096, 65535, 0, 0, 0, &mut short);
 }
 
-// 64 jobs (1, 2, 65535), 453 bytes long, but for the first and the last release.
+// Writes 64 jobs (1, 2, 65535), 453 bytes long, but with other releases for the first and the last.
 fn write_64(first: u16, last: u16, out: &mut [u8]) {
     let mut releases = [1u16; 64];
     let deadlines = [2u16; 64];
@@ -210,7 +219,7 @@ fn write_64(first: u16, last: u16, out: &mut [u8]) {
     write(4096, 0, &releases, &deadlines, &volumes, out);
 }
 
-// 65 releases and deadlines, and so many volumes.
+// Writes a list of 65 releases and deadlines and so many volumes, all 1.
 fn write_65(h: u16, volumes: usize, out: &mut [u8]) {
     let many = [1u16; 65];
     write(h, 0, &many, &many, first(&many, volumes), out);
@@ -229,14 +238,14 @@ fn long_writer() {
     write_65(0, 64, &mut short);
 }
 
-// The list in hex with one byte changed.
+// Reads the list in hex with one byte changed.
 fn example_with(at: usize, value: usize) {
     let mut bytes = EXAMPLE;
     show::put(&mut bytes, at, value);
     read(&bytes);
 }
 
-// Each byte is changed to each of ten values.
+// Reads it with one byte changed to each of ten values.
 fn damage(at: usize) {
     let values = [0usize, 1, 2, 3, 4, 7, 8, 10, 64, 255];
     let mut i = 0;
@@ -246,6 +255,7 @@ fn damage(at: usize) {
     }
 }
 
+// The same for each byte.
 fn damage_each() {
     let mut at = 0;
     while at < 16 {

@@ -1,6 +1,9 @@
 // Planner and exhaustive search on one list.
 ghost use mathlib.Core.Path.{_≡_};
+ghost use mathlib.Core.List.{[], _∷_};
 ghost use lib.ListN.{length};
+ghost use Rattle.test_exhaustive.specs.Digits.{digitOf};
+ghost use Rattle.test_plans.specs.Tallies.{Sum};
 use crate::kept::MARK;
 use crate::kept::kept;
 use sched::Outcome;
@@ -8,7 +11,8 @@ use test_exhaustive::Small;
 use test_exhaustive::Solved;
 use test_exhaustive::digit;
 
-// Counts over lists, and sums of figures over the planned ones.
+// Counts over some lists: all of them, those that the search finds overloaded, those on which planner and search differ; and the sums of the
+// search's energy and added over those that are not overloaded.
 pub struct Tally {
     pub lists: u64,
     pub overloaded: u64,
@@ -17,7 +21,10 @@ pub struct Tally {
     pub added: u64,
 }
 
-pub fn plus(a: Tally, b: Tally) -> Tally {
+// The two tallies added, each field modulo 2^64, which no sweep comes near.
+pub fn plus(a: Tally, b: Tally) -> Tally
+    ensures { λ r. ⌜ Sum a b r ⌝ }
+{
     Tally {
         lists: std::num::wrapping_add_u64(a.lists, b.lists),
         overloaded: std::num::wrapping_add_u64(a.overloaded, b.overloaded),
@@ -27,11 +34,13 @@ pub fn plus(a: Tally, b: Tally) -> Tally {
     }
 }
 
-fn wide(x: u8) -> u64 {
+fn wide(x: u8) -> u64
+    ensures { λ r. ⌜ r ≡ x ⌝ }
+{
     x as u64
 }
 
-// Whether the first h bytes are those of the packed table.
+// Whether the first h bytes of the table, or all where there are fewer, are those of the packed table; h is at most 8.
 fn same_table(h: u32, want: u64, table: &[u8]) -> bool {
     let mut t = 0;
     while t < table.len() {
@@ -43,7 +52,9 @@ fn same_table(h: u32, want: u64, table: &[u8]) -> bool {
     true
 }
 
-// Whether outcome and table are the search's, and the energy is within the limit over every rival.
+// Whether the planner's outcome is the search's. Planned: the same four figures, the same table with the bytes behind h kept, and an energy of
+// at most that of the cheapest feasible table, which exists, plus the sum of volumes. Overloaded: the same interval, no feasible table
+// exists, and the whole table is kept. Refused: never.
 fn agrees(l: Small, want: Solved, outcome: Outcome, table: &[u8]) -> bool {
     let least = test_exhaustive::least_energy(l);
     match outcome {
@@ -69,8 +80,9 @@ fn agrees(l: Small, want: Solved, outcome: Outcome, table: &[u8]) -> bool {
     }
 }
 
+// A field of four jobs from its packed form. The length is for safety, so that parts can be lent.
 fn entries(x: u32) -> [u16; 4]
-    ensures { λ r. ⌜ 4 ≡ length r ⌝ }
+    ensures { λ r. ⌜ (4 ≡ length r) × (r ≡ digitOf x 0 ∷ digitOf x 1 ∷ digitOf x 2 ∷ digitOf x 3 ∷ []) ⌝ }
 {
     [
         digit(x, 0) as u16,
@@ -80,6 +92,7 @@ fn entries(x: u32) -> [u16; 4]
     ]
 }
 
+// The planner's outcome for the list, with the table lent to it; n is at most 4 and h at most 8.
 fn planned(l: Small, table: &mut [u8]) -> Outcome {
     let n = (l.n % 5) as usize;
     let releases = entries(l.r);
@@ -95,7 +108,7 @@ fn planned(l: Small, table: &mut [u8]) -> Outcome {
     )
 }
 
-// The tally of one list.
+// The tally of this one list: `differing` is 0 where planner and search agree on a lent table of 16 bytes, else 1.
 pub fn compare(l: Small) -> Tally {
     let want = test_exhaustive::solve(l);
     let mut table = [MARK; 16];

@@ -1,29 +1,33 @@
 // The lists of the comparison, each made from a number.
 use test_exhaustive::Small;
 use test_exhaustive::digit;
-ghost use Prim.Native.Nat.{_<_};
+ghost use mathlib.Core.Path.{_≡_};
+ghost use Prim.Native.Nat.{_+_, _*_, _/_, _%_, _^_, _<_, min, max};
 
-// Wake costs 0, 1, 2, 3 and 9.
+// The wake costs 0, 1, 2, 3 and 9, for i modulo 5.
 fn wake_cost(i: u32) -> u16 {
     let c = (i % 5) as u16;
     if c == 4 { 9 } else { c }
 }
 
-// Digit j of a packed field.
-fn placed(x: u32, j: u32) -> u32 {
+// A packed field in which only job j has a digit, the lowest of x; j is below 8. The rest by 2^32 changes nothing.
+fn placed(x: u32, j: u32) -> u32
+    ensures { λ r. ⌜ r ≡ (x % 16) * 2 ^ (j % 8 * 4) % 2 ^ 32 ⌝ }
+{
     (x % 16) << (j % 8 * 4)
 }
 
+// The rest of x by m. That it is below m is there for safety.
 fn modulo(x: u32, m: u32) -> u32
     requires { ⌜ 0 < m ⌝ }
-    ensures { λ r. ⌜ r < m ⌝ }
+    ensures { λ r. ⌜ (r ≡ x % m) × (r < m) ⌝ }
 {
     x % m
 }
 
-// List number `code` of those with n jobs, a horizon of at most m and volumes of at most m, a field
-// after the other: first the horizon, then the wake cost, then release, deadline and volume of each
-// job. Some are no lists: see `valid`.
+// List number `code` of those with n jobs (at most four), a horizon of at most m and volumes of at most m, where m is at most 8. The number
+// has a digit a field, the lowest first: horizon less 1 (of m values), the wake cost (of five), then for each job release, deadline less 1
+// and volume less 1 (of m values each). Some do not pass the list checks: see `valid`.
 pub fn listed(n: u32, m: u32, code: u32) -> Small
     requires { ⌜ 0 < m ⌝ }
 {
@@ -49,6 +53,7 @@ pub fn listed(n: u32, m: u32, code: u32) -> Small
     }
 }
 
+// Whether the list has no job j, or one with r < d, d ≤ h and a volume that is larger than its span by one at most.
 fn valid_job(l: Small, j: u32) -> bool {
     l.n <= j
         || digit(l.r, j) < digit(l.d, j)
@@ -56,33 +61,37 @@ fn valid_job(l: Small, j: u32) -> bool {
             && digit(l.r, j) + digit(l.p, j) <= digit(l.d, j) + 1
 }
 
-// Whether the list passes the list checks and no volume is larger than its span by more than one.
+// Whether a list from `listed` passes the list checks and no volume is larger than its span by more than one.
+// Horizon and volumes of such a list are at least 1 anyway.
 pub fn valid(l: Small) -> bool {
     valid_job(l, 0) && valid_job(l, 1) && valid_job(l, 2) && valid_job(l, 3)
 }
 
 // The numbers behind the drawn lists: a linear congruence, used without its low bits.
-pub fn next(seed: u64) -> u64
-    ensures { λ r. ⌜ r < 2147483648 ⌝ }
+fn next(seed: u64) -> u64
+    ensures { λ r. ⌜ r ≡ (seed % 2147483648 * 1103515245 + 12345) % 2147483648 ⌝ }
 {
     (seed % 2147483648 * 1103515245 + 12345) % 2147483648
 }
 
+// A number below m: the rest by m of bits 16 to 30 of the seed.
 fn below(seed: u64, m: u32) -> u32
     requires { ⌜ 0 < m ⌝ }
-    ensures { λ r. ⌜ r < m ⌝ }
+    ensures { λ r. ⌜ (r ≡ seed / 65536 % 32768 % m) × (r < m) ⌝ }
 {
     modulo((seed / 65536 % 32768) as u32, m)
 }
 
+// Release and deadline.
 struct Span {
     r: u32,
     d: u32,
 }
 
-// From the lesser of two slots to the greater.
+// The span from the lesser of two slots to the greater; they are below 8 for safety, so that the deadline fits.
 fn between(x: u32, y: u32) -> Span
     requires { ⌜ (x < 8) × (y < 8) ⌝ }
+    ensures { λ s. ⌜ (s .r ≡ min x y) × (s .d ≡ max x y + 1) ⌝ }
 {
     if x < y {
         Span { r: x, d: y + 1 }
@@ -91,12 +100,13 @@ fn between(x: u32, y: u32) -> Span
     }
 }
 
+// A list, and the seed for the next one.
 pub struct Draw {
     pub list: Small,
     pub seed: u64,
 }
 
-// A list of one to four jobs, five to eight slots and volumes of at most three.
+// A list that passes the list checks, of one to four jobs, five to eight slots and volumes of at most three. Equal seeds give equal lists.
 pub fn drawn(seed: u64) -> Draw {
     let h_seed = next(seed);
     let q_seed = next(h_seed);

@@ -1,7 +1,8 @@
 // Single lists, each printed with the number and values of its outcome, and with whether every byte
 // that must stay has stayed.
 ghost use mathlib.Core.Path.{_≡_};
-ghost use lib.ListN.{length};
+ghost use Prim.Native.Nat.{_%_};
+ghost use lib.ListN.{length, set, replicate};
 use crate::kept::MARK;
 use crate::kept::kept;
 use sched::Outcome;
@@ -54,12 +55,14 @@ fn single(r: u16, d: u16, p: u16) -> Trial {
     with_odd(plain(8, 1), 0, 0, r, d, p)
 }
 
+// The same with a table of so many bytes.
 fn with_room(t: Trial, room: usize) -> Trial {
     let mut next = t;
     next.room = room;
     next
 }
 
+// The same with so many releases, deadlines and volumes.
 fn with_lengths(t: Trial, releases: usize, deadlines: usize, volumes: usize) -> Trial {
     let mut next = t;
     next.releases = releases;
@@ -68,11 +71,13 @@ fn with_lengths(t: Trial, releases: usize, deadlines: usize, volumes: usize) -> 
     next
 }
 
+// Prints a space and x in decimal.
 fn number(x: u64) {
     io::write_all(1, b" ");
     io::print_decimal(1, x);
 }
 
+// Prints 0, energy, awake slots, runs and added.
 fn show_figures(f: PlanFigures) {
     number(0);
     number(f.energy as u64);
@@ -81,7 +86,7 @@ fn show_figures(f: PlanFigures) {
     number(f.added as u64);
 }
 
-// Prints the outcome, and answers the first byte that must stay.
+// Prints the number and values of an outcome, and yields the first byte of the table that must stay: h where it is planned, else 0.
 fn show(h: u16, outcome: Outcome) -> usize {
     match outcome {
         Outcome::Planned(f) => {
@@ -102,9 +107,9 @@ fn show(h: u16, outcome: Outcome) -> usize {
     }
 }
 
-// An entry for each of 66 jobs.
+// An entry for each of 66 jobs: the odd one for jobs `one` and `other`. The length is for safety, so that parts can be lent.
 fn entries(common: u16, one: usize, other: usize, odd: u16) -> [u16; 66]
-    ensures { λ r. ⌜ 66 ≡ length r ⌝ }
+    ensures { λ r. ⌜ (66 ≡ length r) × (r ≡ set (set (replicate 66 common) (one % 66) odd) (other % 66) odd) ⌝ }
 {
     let mut list = [common; 66];
     list[one % 66] = odd;
@@ -112,6 +117,7 @@ fn entries(common: u16, one: usize, other: usize, odd: u16) -> [u16; 66]
     list
 }
 
+// The planner's outcome for the trial's lists, of at most 66 entries each, with the table lent to it.
 fn planned(t: Trial, table: &mut [u8]) -> Outcome {
     let releases = entries(0, t.one, t.other, t.r);
     let deadlines = entries(t.h, t.one, t.other, t.d);
@@ -129,12 +135,15 @@ fn planned(t: Trial, table: &mut [u8]) -> Outcome {
     )
 }
 
+// 4,100 bytes that hold the mark. The length is for safety, so that parts can be lent.
 fn marked() -> [u8; 4100]
     ensures { λ r. ⌜ 4100 ≡ length r ⌝ }
 {
     [MARK; 4100]
 }
 
+// Prints a line: the name, the outcome of the trial with the first `room` bytes (at most 4,100) lent as table, and `kept` if all bytes that
+// must stay have stayed, else `changed`.
 fn tried(name: &[u8], t: Trial) {
     io::write_all(1, name);
     let mut table = marked();
@@ -148,6 +157,7 @@ fn tried(name: &[u8], t: Trial) {
     }
 }
 
+// The worked cases of document 01 that are not proved, each printed by `tried`.
 pub fn worked() {
     tried(b"H 4096:", plain(4096, 1));
     tried(b"H 4097:", plain(4097, 1));
@@ -160,7 +170,7 @@ pub fn worked() {
     tried(b"d = H + 1:", single(0, 9, 1));
 }
 
-// Each refusal by itself, and what is next to it.
+// Each refusal by itself, and what is next to it, printed so.
 pub fn refused() {
     tried(b"H 0:", plain(0, 0));
     tried(b"H 1, no jobs:", plain(1, 0));
@@ -184,7 +194,7 @@ pub fn refused() {
     tried(b"overload:", single(2, 5, 4));
 }
 
-// Lists with several faults: the first in the order is told.
+// Lists with several faults, of which the first in the order is told, printed so.
 pub fn ordered() {
     let faulty = with_odd(plain(8, 65), 0, 0, 4, 4, 1);
     let unequal = with_room(with_lengths(faulty, 65, 65, 64), 0);

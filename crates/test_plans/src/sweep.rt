@@ -17,7 +17,7 @@ fn nothing() -> Tally {
     }
 }
 
-// The tally of the lists of n jobs with a horizon of at most m that have a number below `end`.
+// The tally of the lists that pass `valid`, have n jobs and a horizon of at most m, and are listed under a number below `end`.
 fn every(n: u32, m: u32, end: u32) -> Tally
     requires { ⌜ 0 < m ⌝ }
 {
@@ -33,6 +33,7 @@ fn every(n: u32, m: u32, end: u32) -> Tally
     tally
 }
 
+// The tally of so many drawn lists, the first from seed 1.
 fn some(count: u32) -> Tally {
     let mut tally = nothing();
     let mut seed: u64 = 1;
@@ -47,11 +48,13 @@ fn some(count: u32) -> Tally {
     tally
 }
 
+// Prints the name and x in decimal.
 fn field(name: &[u8], x: u64) {
     io::write_all(1, name);
     io::print_decimal(1, x);
 }
 
+// Prints the tally, and ends the line.
 fn show(t: Tally) {
     field(b" lists ", t.lists);
     field(b" overloaded ", t.overloaded);
@@ -61,7 +64,8 @@ fn show(t: Tally) {
     io::write_all(1, b"\n");
 }
 
-// The numbers of all lists of n jobs lie below 5 m^(3 n + 1).
+// Prints five lines: the tally of the lists that pass `valid` with no, one and two jobs and at most eight slots, then with three jobs and at
+// most five, and of 200,000 drawn ones. The numbers of all lists of n jobs lie below 5 m^(3 n + 1).
 pub fn all() {
     io::write_all(1, b"no job:");
     show(every(0, 8, 40));

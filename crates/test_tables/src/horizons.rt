@@ -4,7 +4,8 @@ use super::judging::Job;
 use super::recording;
 use super::tables;
 
-// A horizon with one table: figures without jobs, and the record in more than enough room, in just enough and in one byte less.
+// Prints, for a table with so many awake slots below h, the judge's answer without jobs, and the record writer's answers with two bytes more
+// than the record needs, with just enough and with one less.
 fn horizon(h: u16, awake: usize, t: &[u8], out: &mut [u8]) {
     judging::equal(h, 65535, 0, Job { r: 0, d: 1, p: 1 }, t, 4100);
     let bytes = 2 + (h as usize + 7) / 8 + awake % 4097;
@@ -22,6 +23,7 @@ fn plain_horizon(h: u16, all: bool, t: &[u8], out: &mut [u8]) {
     }
 }
 
+// The same for each of eight horizons.
 fn each(all: bool, t: &[u8], out: &mut [u8]) {
     plain_horizon(1, all, t, out);
     plain_horizon(7, all, t, out);
@@ -33,7 +35,7 @@ fn each(all: bool, t: &[u8], out: &mut [u8]) {
     plain_horizon(4096, all, t, out);
 }
 
-// Tables that are asleep, awake and both by turns.
+// Tables that are asleep, awake and both by turns, printed so.
 pub fn marks(t: &mut [u8], out: &mut [u8]) {
     tables::fill(t, 255);
     each(false, t, out);

@@ -2,13 +2,14 @@
 use super::show;
 use super::tables;
 
+// Release, deadline and volume.
 pub struct Job {
     pub r: u16,
     pub d: u16,
     pub p: u16,
 }
 
-// Judges the first len bytes of t against n equal jobs, but for job k.
+// Judges the first len bytes of t against n equal jobs (at most 65), of which job k is another, and prints the answer.
 fn jobs(h: u16, q: u16, n: usize, job: Job, k: usize, other: Job, t: &[u8], len: usize) {
     let rs = tables::field(job.r, k, other.r);
     let ds = tables::field(job.d, k, other.d);
@@ -23,12 +24,12 @@ fn jobs(h: u16, q: u16, n: usize, job: Job, k: usize, other: Job, t: &[u8], len:
     ));
 }
 
-// Judges t against n equal jobs.
+// Judges the first len bytes of t against n equal jobs (at most 65), and prints the answer.
 pub fn equal(h: u16, q: u16, n: usize, job: Job, t: &[u8], len: usize) {
     jobs(h, q, n, job, 65, job, t, len);
 }
 
-// Judges t against three lists of a jobs, b jobs and c jobs.
+// Judges t with horizon 10 and wake cost 1 against lists of a releases 0, b deadlines 10 and c volumes 1 (at most 65), and prints the answer.
 fn lengths(a: usize, b: usize, c: usize, t: &[u8]) {
     let rs = [0u16; 65];
     let ds = [10u16; 65];
@@ -43,13 +44,13 @@ fn lengths(a: usize, b: usize, c: usize, t: &[u8]) {
     ));
 }
 
-// Puts one byte more into t, and judges it against n equal jobs.
+// Puts one byte more into t, and judges its first 4,096 bytes, all of them slots, against n equal jobs with wake cost 1.
 fn put_and_judge(t: &mut [u8], at: usize, byte: u8, n: usize, job: Job) {
     tables::put(t, at, byte);
     equal(4096, 1, n, job, t, 4096);
 }
 
-// 12 and 19 of the judge.
+// 12 and 19 of the judge, and a list of 64 jobs that has neither.
 pub fn list_faults(t: &[u8]) {
     let job = Job { r: 0, d: 1, p: 1 };
     equal(0, 1, 0, job, t, 4100);
@@ -62,7 +63,7 @@ pub fn list_faults(t: &[u8]) {
     lengths(64, 64, 64, t);
 }
 
-// 15 for the first and the last job; 17 after it.
+// 15 for the first and the last job, a job that is just no fault, and 17, which comes after 15.
 pub fn job_faults(t: &[u8]) {
     let job = Job { r: 0, d: 1, p: 1 };
     jobs(10, 1, 64, job, 0, Job { r: 4, d: 4, p: 1 }, t, 0);

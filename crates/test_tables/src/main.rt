@@ -7,7 +7,7 @@ mod judging; // judging.rt: the judge
 mod recording; // recording.rt: the record writer
 mod horizons; // horizons.rt: both, for horizons of all kinds
 
-// Judges a plan, and shows its record and what is left of the room for it.
+// Prints the judge's answer for a plan, the record writer's, and all bytes of the room for the record.
 fn show_plan(
     h: u16,
     q: u16,
@@ -23,6 +23,7 @@ fn show_plan(
     show::bytes(tables::first_bytes(out, room));
 }
 
+// The third plan that 01 works by hand.
 fn worked_case(out: &mut [u8]) {
     let rs = [0u16, 8, 0];
     let ds = [3u16, 10, 10];
@@ -40,7 +41,7 @@ fn page_case(out: &mut [u8]) {
     show_plan(12, 300, &rs, &ds, &ps, &t, out, 11);
 }
 
-// Room for the longest table and four bytes behind it.
+// Room for the longest table and four bytes behind it, asleep throughout.
 fn table() -> [u8; 4100] {
     [255u8; 4100]
 }

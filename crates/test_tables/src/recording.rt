@@ -2,7 +2,8 @@
 use super::show;
 use super::tables;
 
-// Writes the record of the first len bytes of t to all of out, and shows what out then holds.
+// Fills out with 170, writes to it the record of the first len bytes of t for horizon h, and prints a line: the answer, and the digest of
+// what out then holds.
 fn whole(h: u16, t: &[u8], len: usize, out: &mut [u8]) {
     tables::fill(out, 170);
     show::written(record::write(h, tables::first_bytes(t, len), out));
@@ -10,14 +11,14 @@ fn whole(h: u16, t: &[u8], len: usize, out: &mut [u8]) {
     show::end_line();
 }
 
-// The same with the first room bytes of out.
+// The same with the first room bytes of out; nothing where out is shorter.
 pub fn within(h: u16, t: &[u8], len: usize, out: &mut [u8], room: usize) {
     if room <= out.len() {
         whole(h, t, len, &mut out[..room]);
     }
 }
 
-// 12 and 17 of the record writer.
+// 12 and 17 of the record writer, over a table that is asleep throughout.
 pub fn sizes(t: &mut [u8], out: &mut [u8]) {
     tables::fill(t, 255);
     within(0, t, 4100, out, 0);
@@ -27,7 +28,7 @@ pub fn sizes(t: &mut [u8], out: &mut [u8]) {
     within(4096, t, 4095, out, 4700);
 }
 
-// Puts one byte more into t, and writes the record of its first len bytes.
+// Puts one byte more into t, and writes the record of its first len bytes for 4,096 slots.
 fn put_and_write(t: &mut [u8], at: usize, byte: u8, len: usize, out: &mut [u8], room: usize) {
     tables::put(t, at, byte);
     within(4096, t, len, out, room);

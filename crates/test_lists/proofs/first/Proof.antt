@@ -1,7 +1,8 @@
--- A part of a slice that is within it.
+-- The part is as long as its end says, and past the end there is nothing to cut off.
 use borrow.Author.Needs.{needs}
 use mathlib.Core.Path.{sym}
-use lib.Seq.{length-take-le}
+use lib.Seq.{length-take-le, take-all}
+use native.Mathlib.Nat.{le-of-lt}
 use Rattle.test_lists.proofs.first.Statement.{statement}
 use Rattle.test_lists.proofs.first.Tie as tie
 
@@ -12,7 +13,7 @@ returns : tie.Need-returns
 returns c = search needs
 
 returns-2 : tie.Need-returns-2
-returns-2 c = search needs
+returns-2 c = sym (take-all _ _ (le-of-lt (c .if1 .left)))
 
 pub first-spec : {M : Type 1} → statement M
 first-spec = tie.close (tie.spec slice-aggregate-result returns returns-2)

@@ -1,4 +1,5 @@
--- `modulo` keeps below its divisor.
+-- `modulo` yields the rest, which is below its divisor.
+use mathlib.Core.Path.{refl}
 use native.Mathlib.Nat.{mod-lt}
 use borrow.Author.Needs.{needs}
 use Rattle.test_plans.proofs.lists.modulo.Statement.{statement}
@@ -8,7 +9,7 @@ rem-result : tie.Need-rem-result
 rem-result c = search needs
 
 returns : tie.Need-returns
-returns c = mod-lt (c .args .x) (search needs)
+returns c = (refl, mod-lt (c .args .x) (search needs))
 
 pub modulo-spec : {M : Type 1} → statement M
 modulo-spec = tie.close (tie.spec rem-result returns)

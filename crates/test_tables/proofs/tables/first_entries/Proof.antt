@@ -1,6 +1,7 @@
--- `tables::first_entries` is safe: the part is as long as its end says.
+-- `tables::first_entries` meets its contract: the part is as long as its end says, and past the end there is nothing to cut off.
 use mathlib.Core.Path.{sym}
-use lib.Seq.{length-take-le}
+use lib.Seq.{length-take-le, take-all}
+use native.Mathlib.Nat.{le-of-lt}
 use borrow.Author.Needs.{needs}
 use Rattle.test_tables.proofs.tables.first_entries.Statement.{statement}
 use Rattle.test_tables.proofs.tables.first_entries.Tie as tie
@@ -12,7 +13,7 @@ returns : tie.Need-returns
 returns c = search needs
 
 returns-2 : tie.Need-returns-2
-returns-2 c = search needs
+returns-2 c = sym (take-all _ _ (le-of-lt (c .if1 .left)))
 
 pub first-entries-spec : {M : Type 1} → statement M
 first-entries-spec = tie.close (tie.spec slice-aggregate-result returns returns-2)

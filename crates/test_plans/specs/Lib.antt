@@ -1,0 +1,2 @@
+-- What the contracts of the comparison cite.
+pub mod Tallies
