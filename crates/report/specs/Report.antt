@@ -1,9 +1,10 @@
 -- 01, "Plans worked by hand", last paragraph: the text that a program prints of an outcome and its table; what the writer puts out for each
 -- lent output; and the number and values of each answer.
-use Prim.Native.Nat.{ℕ}
+use Prim.Native.Nat.{ℕ, _+_}
 use mathlib.Core.Path.{_≡_}
 use mathlib.Core.List.{List, [], _∷_, _++_}
 use lib.ListN.{length, drop}
+use lib.Seq.{sets}
 use Rattle.sched.specs.Slots.{awakeOf}
 use Rattle.sched.specs.Runs.{Run, runList}
 use Rattle.sched.specs.Refusals.{number, place}
@@ -16,6 +17,7 @@ use Rattle.sched.specs.declared.Outcome.the-variants.{Planned, Overloaded, Refu
 use Rattle.decimal.specs.Decimal.{digits}
 use Rattle.report.specs.declared.TextWritten.{TextWritten}
 use Rattle.report.specs.declared.TextWritten.the-variants.{Written, Refused}
+pub mod Laws
 
 -- in ASCII: plan, run, refused
 abbrev pub planWord : List ℕ
@@ -90,3 +92,8 @@ pub record Reports (text out : List ℕ) (answer : TextWritten) (after : List �
   pub values : writtenValues answer ≡ writtenValues (textAnswer text (textCheck text out))
   pub same : answer ≡ textAnswer text (textCheck text out)
   pub bytes : after ≡ textAfter text out (textCheck text out)
+
+-- what the writer's parts promise: bytes stored from a place on, and the place behind them
+pub record PutAt (out : List ℕ) (at : ℕ) (bytes : List ℕ) (end : ℕ) (after : List ℕ) : Type 0 where
+  pub next : end ≡ at + length bytes
+  pub stored : after ≡ sets out at bytes
