@@ -18,7 +18,7 @@ awake-at-most (true ∷ S) = omega (arith, awake-at-most S)
 awake-at-most (false ∷ S) = omega (arith, awake-at-most S)
 
 -- in an awake state the next run comes a slot later
-pub room : Bool → ℕ
+unfoldable pub room : Bool → ℕ
 room true = 0
 room false = 1
 

@@ -1,16 +1,19 @@
--- The list of runs has each longest stretch once, in rising order, and as many as `runs` counts.
-use Prim.Native.Nat.{ℕ, zero, suc, _+_, _≤_, _<_}
+-- The list of runs has each longest stretch once, in rising order, and as many as `runs` counts; and it is found stretch by stretch.
+use Prim.Native.Nat.{ℕ, zero, suc, _+_, _-_, _≤_, _<_}
 use mathlib.Core.Path.{_≡_, refl, sym, ap, _∙_}
 use mathlib.Core.Bool.{Bool, true, false}
 use mathlib.Core.List.{List, [], _∷_, List·Memᴰ, List·Memᴰ·head, List·Memᴰ·tail, List·Memᴰ·cases-cons, List·Memᴰ·not-nil}
 use mathlib.Core.Logic.{_⊎_, inl, inr}
 use native.Mathlib.Nat.{zero-add, suc-add, add-suc, add-zero, le-refl}
 use native.Mathlib.Omega.{arith}
-use lib.ListN.{length, getD}
+use native.Mathlib.Decide.{decLt}
+use lib.ListN.{length, getD, drop, List·getD-eq-default}
+use lib.Seq.{drop-drop, getD-drop}
 use Rattle.sched.specs.Bounded.Laws.{true-not-false}
-use Rattle.sched.specs.Slots.{awake, awakeBefore}
+use Rattle.sched.specs.Slots.{awake, awakeOf, awakeBefore}
+use Rattle.sched.specs.Slots.Laws.{awake-of-length}
 use Rattle.sched.specs.Energy.{runsFrom}
-use Rattle.sched.specs.Runs.{Run, Longest, leading, runListFrom, runList, Apart, ListsRuns}
+use Rattle.sched.specs.Runs.{Run, Longest, leading, runListFrom, runList, Apart, ListsRuns, StretchEnd}
 
 as-many-as-runs : (b : Bool) (t : ℕ) (S : List Bool) → length (runListFrom b t S) ≡ runsFrom b S
 unfolding runListFrom runsFrom
@@ -198,3 +201,70 @@ runs-are-longest-stretches S =
       every = longest-listed S;
       apart = stretches-apart S;
     }
+
+-- stretch by stretch: k sleeping slots have no run
+
+skip-asleep : (k t : ℕ) (S : List Bool) → ((i : ℕ) → i < k → getD S i false ≡ false) → runListFrom false t S ≡ runListFrom false (t + k) (drop k S)
+unfolding runListFrom
+skip-asleep zero t S inside = ap (λ (n : ℕ). runListFrom false n S) (sym (add-zero t))
+skip-asleep (suc k) t [] inside = refl
+skip-asleep (suc k) t (true ∷ S) inside = true-not-false true refl (inside 0 (omega arith))
+skip-asleep (suc k) t (false ∷ S) inside =
+    let e : suc t + k ≡ t + suc k = omega arith in
+    skip-asleep k (suc t) S (λ i l. inside (suc i) (omega arith)) ∙ ap (λ (n : ℕ). runListFrom false n (drop k S)) e
+
+-- k awake slots belong to a run that has begun, or are the next one
+
+skip-awake : (k t : ℕ) (S : List Bool) → ((i : ℕ) → i < k → getD S i false ≡ true) → getD S k false ≡ false → runListFrom true t S ≡ runListFrom false (t + k) (drop k S)
+unfolding runListFrom
+skip-awake zero t [] inside after = refl
+skip-awake zero t (true ∷ S) inside after = true-not-false true refl after
+skip-awake zero t (false ∷ S) inside after = ap (λ (n : ℕ). runListFrom false (suc n) S) (sym (add-zero t))
+skip-awake (suc k) t [] inside after = true-not-false false (inside 0 (omega arith)) refl
+skip-awake (suc k) t (false ∷ S) inside after = true-not-false false (inside 0 (omega arith)) refl
+skip-awake (suc k) t (true ∷ S) inside after =
+    let e : suc t + k ≡ t + suc k = omega arith in
+    skip-awake k (suc t) S (λ i l. inside (suc i) (omega arith)) after ∙ ap (λ (n : ℕ). runListFrom false n (drop k S)) e
+
+take-awake : (k t : ℕ) (S : List Bool) → 1 ≤ k → ((i : ℕ) → i < k → getD S i false ≡ true) → getD S k false ≡ false → runListFrom false t S ≡ record { first = t; slots = k } ∷ runListFrom false (t + k) (drop k S)
+unfolding runListFrom
+take-awake zero t S some inside after = absurd (omega arith)
+take-awake (suc k) t [] some inside after = true-not-false false (inside 0 (omega arith)) refl
+take-awake (suc k) t (false ∷ S) some inside after = true-not-false false (inside 0 (omega arith)) refl
+take-awake (suc k) t (true ∷ S) some inside after =
+    let tail : (i : ℕ) → i < k → getD S i false ≡ true = λ i l. inside (suc i) (omega arith) in
+    let e : suc t + k ≡ t + suc k = omega arith in
+    let long : leading S ≡ k = sym (leading-is S k tail after) in
+    let rest : runListFrom true (suc t) S ≡ runListFrom false (t + suc k) (drop k S) =
+        skip-awake k (suc t) S tail after ∙ ap (λ (n : ℕ). runListFrom false n (drop k S)) e in
+    rw (long, rest)
+
+-- the runs of a table from slot t on, where none is under way
+abbrev pub runsLeft : List ℕ → ℕ → List Run
+runsLeft table t = runListFrom false t (drop t (awakeOf table))
+
+module _ (table : List ℕ) (from end : ℕ) where
+  slot : (i : ℕ) → getD (drop from (awakeOf table)) i false ≡ awake (awakeOf table) (from + i)
+  slot i = getD-drop from (awakeOf table) i false
+
+  moved-to : from ≤ end → runListFrom false (from + (end - from)) (drop (end - from) (drop from (awakeOf table))) ≡ runsLeft table end
+  moved-to l =
+      let e : from + (end - from) ≡ end = omega arith in
+      ap (runListFrom false (from + (end - from))) (drop-drop (end - from) from (awakeOf table)) ∙ ap (runsLeft table) e
+
+  -- a sleeping stretch is passed
+  pub stretch-asleep : StretchEnd table from false end → runsLeft table from ≡ runsLeft table end
+  stretch-asleep s =
+      skip-asleep (end - from) from (drop from (awakeOf table)) (λ i l. slot i ∙ s .inside (from + i) (omega arith) (omega arith))
+      ∙ moved-to (s .starts)
+
+  -- an awake one is the next run
+  pub stretch-awake : StretchEnd table from true end → from < end → runsLeft table from ≡ record { first = from; slots = end - from } ∷ runsLeft table end
+  stretch-awake s l =
+      take-awake (end - from) from (drop from (awakeOf table)) (omega arith) (λ i m. slot i ∙ s .inside (from + i) (omega arith) (omega arith))
+      (slot (end - from) ∙ ap (awake (awakeOf table)) (let e : from + (end - from) ≡ end = omega arith in e) ∙ ends (decLt end (length table)))
+      ∙ ap (λ (rest : List Run). record { first = from; slots = end - from } ∷ rest) (moved-to (s .starts))
+    where
+      ends : Dec (end < length table) → awake (awakeOf table) end ≡ false
+      ends (yes m) = s .turns m
+      ends (no m) = List·getD-eq-default (awakeOf table) false (rw awake-of-length (omega arith))

@@ -2,9 +2,9 @@
 use Prim.Native.Nat.{_-_}
 use borrow.Author.Needs.{needs}
 use lib.ListN.{length}
-use Rattle.plan.proofs.Laws.{Reached, reached-none, reached-turn, reached-on, reached-end}
-use Rattle.plan.proofs.runs.end.Statement.{statement}
-use Rattle.plan.proofs.runs.end.Tie as tie
+use Rattle.report.proofs.Stretches.{Reached, reached-none, reached-turn, reached-on, reached-end}
+use Rattle.report.proofs.runs.end.Statement.{statement}
+use Rattle.report.proofs.runs.end.Tie as tie
 
 abbrev Inv-loop : tie.InvT-loop
 Inv-loop table from awake t₀ t = Reached table from awake t

@@ -1,0 +1,29 @@
+-- 01, "Plans worked by hand": what is printed of the third plan, of the overload 2, 5, and of an empty input. Closed cases, so that an edit of
+-- a definition is refused here.
+use mathlib.Core.Path.{_≡_, refl}
+use mathlib.Core.List.{[], _∷_}
+use Rattle.sched.specs.Runs.{leading, runListFrom}
+use Rattle.sched.specs.declared.Outcome.the-variants.{Planned, Overloaded, Refused}
+use Rattle.sched.specs.declared.Refusal.the-variants.{Truncated}
+use Rattle.decimal.specs.Decimal.{digitsIn, digits}
+use Rattle.report.specs.Report.{numbers, linesOf, textOf}
+
+-- plan 14 8 2 6, run 0 6, run 8 2; outcome and table are a row of `starred` (sched/specs/Cases)
+pub third-text :
+    textOf (Planned (record { energy = 14; awake = 8; runs = 2; added = 6 })) (0 ∷ 2 ∷ 2 ∷ 2 ∷ 2 ∷ 2 ∷ 255 ∷ 255 ∷ 1 ∷ 1 ∷ []) ≡
+    112 ∷ 108 ∷ 97 ∷ 110 ∷ 32 ∷ 49 ∷ 52 ∷ 32 ∷ 56 ∷ 32 ∷ 50 ∷ 32 ∷ 54 ∷ 10
+    ∷ 114 ∷ 117 ∷ 110 ∷ 32 ∷ 48 ∷ 32 ∷ 54 ∷ 10
+    ∷ 114 ∷ 117 ∷ 110 ∷ 32 ∷ 56 ∷ 32 ∷ 50 ∷ 10
+    ∷ []
+unfolding leading runListFrom digits digitsIn numbers linesOf
+third-text = refl
+
+-- refused 18 2 5
+pub overload-text : textOf (Overloaded (record { a = 2; b = 5 })) [] ≡ 114 ∷ 101 ∷ 102 ∷ 117 ∷ 115 ∷ 101 ∷ 100 ∷ 32 ∷ 49 ∷ 56 ∷ 32 ∷ 50 ∷ 32 ∷ 53 ∷ 10 ∷ []
+unfolding digits digitsIn numbers
+overload-text = refl
+
+-- refused 11 0
+pub empty-text : textOf (Refused (Truncated 0)) [] ≡ 114 ∷ 101 ∷ 102 ∷ 117 ∷ 115 ∷ 101 ∷ 100 ∷ 32 ∷ 49 ∷ 49 ∷ 32 ∷ 48 ∷ 10 ∷ []
+unfolding digits digitsIn numbers
+empty-text = refl
