@@ -1,0 +1,3 @@
+-- What the program prints of what it reads. `Theorems` has what is proved of it.
+pub mod Program
+pub mod Theorems
