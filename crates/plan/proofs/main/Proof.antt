@@ -1,9 +1,8 @@
--- `main` is safe: the parts of the lists that it lends lie in them, and every horizon fits its table.
+-- `main` is safe: the parts of the lists that it lends lie in them.
 use mathlib.Core.Path.{sym}
 use borrow.Author.Needs.{needs}
 use lib.Seq.{length-take-le}
 use Rattle.joblist.specs.Theorems.Handed.{read-list}
-use Rattle.plan.proofs.Laws.{fits-buffer}
 use Rattle.plan.proofs.main.Statement.{statement}
 use Rattle.plan.proofs.main.Tie as tie
 
@@ -47,9 +46,6 @@ print-refused-requires c κs = search needs
 returns : tie.Need-returns
 returns c = search needs
 
-cast-h : tie.Need-cast-h
-cast-h c = search needs
-
 buffer-requires : tie.Need-buffer-requires
 buffer-requires c κs = search needs
 
@@ -89,17 +85,11 @@ slice-aggregate-plan-4 c = search needs
 plan-requires : tie.Need-plan-requires
 plan-requires c κs = search needs
 
-array-share-prefix-table : tie.Need-array-share-prefix-table
-array-share-prefix-table c =
-    let known = c .before .before .before .before .before .before .before .before in
-    let list = read-list _ _ _ _ _ _ _ _ (was-read known .read .ensures) _ (known .before .read2 .given .1) in
-    fits-buffer _ _ _ (list .high) (c .before .before .before .before .before .before .buffer .ensures) (c .before .plan .kept .1 .1 .1 .1 .1 .0)
+slice-aggregate-print : tie.Need-slice-aggregate-print
+slice-aggregate-print c = search needs
 
-slice-aggregate-print-outcome : tie.Need-slice-aggregate-print-outcome
-slice-aggregate-print-outcome c = sym (length-take-le _ _ (array-share-prefix-table (c .before)))
-
-print-outcome-requires : tie.Need-print-outcome-requires
-print-outcome-requires c κs = search needs
+print-requires : tie.Need-print-requires
+print-requires c κs = search needs
 
 returns-2 : tie.Need-returns-2
 returns-2 c = search needs
@@ -120,7 +110,6 @@ main-spec =
     enum-told
     print-refused-requires
     returns
-    cast-h
     buffer-requires
     array-share-prefix-releases
     slice-aggregate-plan
@@ -130,7 +119,6 @@ main-spec =
     slice-aggregate-plan-3
     slice-aggregate-plan-4
     plan-requires
-    array-share-prefix-table
-    slice-aggregate-print-outcome
-    print-outcome-requires
+    slice-aggregate-print
+    print-requires
     returns-2)
