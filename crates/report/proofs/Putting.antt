@@ -9,7 +9,7 @@ use lib.ListN.{length, getD, set, drop, length-set, length-append, drop-of-lengt
 use lib.Seq.{sets, sets-eq, length-sets, drop-cons}
 use Rattle.decimal.specs.Decimal.{digits, PutsDigits}
 use Rattle.report.specs.Report.{numbers, line, PutAt}
-use Rattle.report.specs.Report.Laws.{numbers-few, line-length}
+use Rattle.report.specs.Report.Laws.{numbers-few}
 
 sets-append : (vs ws out : List ℕ) (at : ℕ) → sets out at (vs ++ ws) ≡ sets (sets out at vs) (at + length vs) ws
 sets-append [] ws out at = ap (λ (i : ℕ). sets out i ws) (omega arith)

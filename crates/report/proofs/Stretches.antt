@@ -1,11 +1,11 @@
 -- Stretches of a table, slot by slot; and the lines of its runs, run by run.
-use Prim.Native.Nat.{ℕ, _+_, _*_, _-_, _≤_, _<_}
+use Prim.Native.Nat.{ℕ, _+_, _-_, _≤_, _<_}
 use mathlib.Core.Path.{_≡_, refl, sym, ap, _∙_}
 use mathlib.Core.Bool.{Bool, true, false, not, Bool·beq}
-use mathlib.Core.List.{List, [], _∷_, _++_}
+use mathlib.Core.List.{List, [], _++_}
 use native.Mathlib.Omega.{arith}
 use borrow.Author.Tests.{ltb-true, ltb-false}
-use lib.ListN.{length, getD, drop, length-append, drop-of-length-le}
+use lib.ListN.{length, getD, length-append, drop-of-length-le}
 use lib.Dec.{ltb, eqb}
 use Rattle.sched.specs.Bounded.Laws.{by-bool, true-not-false}
 use Rattle.sched.specs.Slots.{awake, awakeOf, asleep}
@@ -13,9 +13,8 @@ use Rattle.sched.specs.Slots.Laws.{awake-of, awake-of-length}
 use Rattle.sched.specs.Energy.Laws.{room, runs-at-most}
 use Rattle.sched.specs.Runs.{Run, StretchEnd, runListFrom}
 use Rattle.sched.specs.Runs.Laws.{runsLeft, stretch-asleep, stretch-awake}
-use Rattle.decimal.specs.Theorems.{digits-few}
-use Rattle.report.specs.Report.{numbers, runWord, runLine, linesOf, runLines, PutAt}
-use Rattle.report.specs.Report.Laws.{line-length, numbers-length, lines-few}
+use Rattle.report.specs.Report.{runLine, linesOf, runLines, PutAt}
+use Rattle.report.specs.Report.Laws.{run-line-few, lines-few}
 use Rattle.report.proofs.Putting.{ToPut, put-none, put-part, put-room, put-all}
 
 differs : (x b : Bool) → not (Bool·beq x b) ≡ true → x ≡ not b
@@ -99,25 +98,15 @@ unfolding linesOf runListFrom
 last-lines table first l =
     ap (λ (S : List Bool). linesOf (runListFrom false first S)) (drop-of-length-le (awakeOf table) {i = first} (rw awake-of-length l))
 
--- a run of at most 65,535 slots takes at most 16 bytes, and there are at most 32,768
-run-line-few : (first slots : ℕ) → first + slots ≤ 65535 → length (runLine first slots) ≤ 16
-unfolding numbers
-run-line-few first slots l =
-    omega (
-      arith,
-      line-length runWord (first ∷ slots ∷ []),
-      numbers-length first (slots ∷ []),
-      numbers-length slots [],
-      digits-few 5 first (omega arith) (omega arith),
-      digits-few 5 slots (omega arith) (omega arith),
-    )
-
+-- a line of a table of at most 65,535 slots takes at most 16 bytes, and there are at most 32,768
 pub lines-most : (table : List ℕ) → length table ≤ 65535 → length (runLines table) ≤ 524288
 unfolding room
 lines-most table l =
     let S = awakeOf table in
     let long : length S ≡ length table = awake-of-length table in
-    omega (arith, lines-few 65535 16 run-line-few false 0 S (omega arith), runs-at-most false S)
+    let short : (first slots : ℕ) → first + slots ≤ 65535 → length (runLine first slots) ≤ 16 =
+        λ first slots m. run-line-few 5 first slots (omega arith) (omega arith) (omega arith) in
+    omega (arith, lines-few 65535 16 short false 0 S (omega arith), runs-at-most false S)
 
 -- their length, run by run
 pub record LinesSized (table : List ℕ) (n first : ℕ) : Type 0 where

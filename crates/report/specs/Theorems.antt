@@ -17,31 +17,19 @@ use Rattle.sched.specs.declared.Checked.the-variants.{Passed}
 use Rattle.sched.specs.Outcomes.{outcomeValues}
 use Rattle.sched.specs.declared.Outcome.{Outcome}
 use Rattle.sched.specs.declared.Outcome.the-variants.{Planned, Overloaded, Refused}
-use Rattle.decimal.specs.Theorems.{digits-few}
 use Rattle.report.specs.declared.TextWritten.{TextWritten}
 use Rattle.report.specs.declared.TextWritten.the-variants.{Written}
-use Rattle.report.specs.Report.{numbers, line, planWord, refusedWord, runWord, runLine, runLines, textOf}
+use Rattle.report.specs.Report.{line, planWord, refusedWord, runLine, runLines, textOf}
 use Rattle.report.specs.Report.{textCheck, textAnswer, textAfter, writtenNumber, writtenValues, Reports}
-use Rattle.report.specs.Report.Laws.{numbers-length, numbers-few, line-length, lines-few}
-
--- a run's line: its word, two spaces, two numbers below 10,000, and byte 10
-run-line-short : (first slots : ℕ) → first + slots ≤ 4096 → length (runLine first slots) ≤ 14
-unfolding numbers
-run-line-short first slots l =
-    omega (
-      arith,
-      line-length runWord (first ∷ slots ∷ []),
-      numbers-length first (slots ∷ []),
-      numbers-length slots [],
-      digits-few 4 first (omega arith) (omega arith),
-      digits-few 4 slots (omega arith) (omega arith),
-    )
+use Rattle.report.specs.Report.Laws.{numbers-few, line-length, run-line-few, lines-few}
 
 run-lines-short : (slots : List ℕ) → length slots ≤ 4096 → length (runLines slots) ≤ 28672
 run-lines-short slots l =
     let S = awakeOf slots in
     let few : length S ≤ 4096 = rw awake-of-length l in
-    omega (arith, lines-few 4096 14 run-line-short false 0 S (omega arith), runs-few false S few)
+    let short : (first run : ℕ) → first + run ≤ 4096 → length (runLine first run) ≤ 14 =
+        λ first run m. run-line-few 4 first run (omega arith) (omega arith) (omega arith) in
+    omega (arith, lines-few 4096 14 short false 0 S (omega arith), runs-few false S few)
 
 pub text-fits : (outcome : Outcome) (slots : List ℕ) → length slots ≤ 4096 → length (textOf outcome slots) ≤ 28761
 text-fits (Planned f) slots l =

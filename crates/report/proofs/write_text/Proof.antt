@@ -29,7 +29,7 @@ fits : (c : tie.After-enum-told) → let sized = c .before .before .before in si
 fits c =
     let sized = c .before .before .before in
     length-good (length (start sized .args .out .now)) (sized .before .size .result + sized .size2 .result)
-    (sym (c .before .before .check-length .ensures) ∙ c .enum-told .given .1)
+    (sym (c .before .before .check-length .ensures .same) ∙ c .enum-told .given .1)
 
 size-requires : tie.Need-size-requires
 size-requires c κs = search needs
@@ -84,14 +84,14 @@ returns c =
     let check = told .before .before in
     let sized = check .before in
     let a = start sized .args in
-    has-room _ _ _ (size-is sized) _ (sym (check .check-length .ensures) ∙ told .enum-told .given .1)
+    has-room _ _ _ (size-is sized) _ (sym (check .check-length .ensures .same) ∙ told .enum-told .given .1)
     (text-put (line (a .word .now) (a .values .now)) (runLines (a .slots .now)) (a .out .now) _ _ _ _ (omega (arith, fits told, size-is sized))
     (put .put .ensures) (runs .put2 .ensures))
 
 returns-2 : tie.Need-returns-2
 returns-2 c =
     let check = c .before .before .before in
-    no-room _ _ _ (size-is (check .before)) _ (sym (check .check-length .ensures) ∙ c .before .r .given .1)
+    no-room _ _ _ (size-is (check .before)) _ (sym (check .check-length .ensures .same) ∙ c .before .r .given .1)
 
 pub write-text-spec : {M : Type 1} → statement M
 write-text-spec =

@@ -1,8 +1,8 @@
 -- How long a line and the lines of the runs are.
-use Prim.Native.Nat.{ℕ, suc, _+_, _*_, _≤_, _<_}
-use mathlib.Core.Path.{_≡_, ap, _∙_}
+use Prim.Native.Nat.{ℕ, suc, _+_, _*_, _^_, _≤_, _<_}
+use mathlib.Core.Path.{_≡_}
 use mathlib.Core.Bool.{Bool, true, false}
-use mathlib.Core.List.{List, [], _∷_, _++_}
+use mathlib.Core.List.{List, [], _∷_}
 use native.Mathlib.Nat.{mul-suc}
 use native.Mathlib.Omega.{arith}
 use lib.ListN.{length, length-append}
@@ -10,9 +10,10 @@ use Rattle.sched.specs.Energy.{runsFrom}
 use Rattle.sched.specs.Runs.{leading, runListFrom}
 use Rattle.decimal.specs.Decimal.{digits}
 use Rattle.decimal.specs.Decimal.Laws.{digits-most}
-use Rattle.report.specs.Report.{numbers, line, runLine, linesOf}
+use Rattle.decimal.specs.Theorems.{digits-few}
+use Rattle.report.specs.Report.{numbers, line, runWord, runLine, linesOf}
 
-pub numbers-length : (n : ℕ) (ns : List ℕ) → length (numbers (n ∷ ns)) ≡ 1 + length (digits n) + length (numbers ns)
+numbers-length : (n : ℕ) (ns : List ℕ) → length (numbers (n ∷ ns)) ≡ 1 + length (digits n) + length (numbers ns)
 unfolding numbers
 numbers-length n ns = simp length-append (omega arith)
 
@@ -24,6 +25,19 @@ numbers-few (n ∷ ns) = omega (arith, numbers-length n ns, digits-most n, numbe
 
 pub line-length : (word ns : List ℕ) → length (line word ns) ≡ length word + length (numbers ns) + 1
 line-length word ns = simp length-append (omega arith)
+
+-- a run's line: its word, two spaces, two numbers below a power of ten, and byte 10
+pub run-line-few : (k first slots : ℕ) → 1 ≤ k → first < 10 ^ k → slots < 10 ^ k → length (runLine first slots) ≤ 6 + 2 * k
+unfolding numbers
+run-line-few k first slots some l m =
+    omega (
+      arith,
+      line-length runWord (first ∷ slots ∷ []),
+      numbers-length first (slots ∷ []),
+      numbers-length slots [],
+      digits-few k first some l,
+      digits-few k slots some m,
+    )
 
 -- a run has no more slots than are left
 leading-few : (S : List Bool) → leading S ≤ length S

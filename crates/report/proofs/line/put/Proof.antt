@@ -1,6 +1,5 @@
 -- `line::put` meets its contract: the numbers stand behind the word, and byte 10 behind them.
 use native.Mathlib.Omega.{arith}
-use borrow.Author.Needs.{needs}
 use Rattle.report.specs.Report.Laws.{line-length}
 use Rattle.report.proofs.Putting.{put-length, numbers-fit, end-fits, line-put}
 use Rattle.report.proofs.line.put.Statement.{statement}

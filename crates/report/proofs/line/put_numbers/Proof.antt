@@ -1,6 +1,5 @@
 -- `line::put_numbers` meets its contract: a number a turn.
 use Prim.Native.Nat.{_-_}
-use native.Mathlib.Omega.{arith}
 use borrow.Author.Needs.{needs}
 use lib.ListN.{length, drop}
 use Rattle.report.specs.Report.{numbers}
