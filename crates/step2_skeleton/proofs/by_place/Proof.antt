@@ -34,7 +34,8 @@ mul-first-of c =
 shared-slice-read-first-of : tie.Need-shared-slice-read-first-of Inv-loop μ-loop
 shared-slice-read-first-of c =
     let at = c .before .before .before in
-    lent (at .before) .pre .1 .known (at .loop .k) (c .before .before .loop-test .taken)
+    let can = lent (at .before) .pre .1 in
+    omega (arith, can .known (at .loop .k) (c .before .before .loop-test .taken), can .same)
 
 first-of-requires : tie.Need-first-of-requires Inv-loop μ-loop
 first-of-requires c κs = search needs
