@@ -13,7 +13,7 @@ use Rattle.sched.specs.TwoBytes.{word}
 use Rattle.sched.specs.Checks.{JobCheck, andThen, jobCheck}
 use Rattle.sched.specs.declared.Checked.{Checked}
 use Rattle.sched.specs.declared.Checked.the-variants.{Passed, Refused}
-use Rattle.joblist.specs.Bytes.{headerLength, headerHorizon, headerCount, absentRelease, absentDeadline, absentVolume}
+use Rattle.joblist.specs.Bytes.{headerLength, headerHorizon, countIn, headerCount, absentRelease, absentDeadline, absentVolume}
 use Rattle.joblist.specs.Bytes.{hasRelease, hasDeadline, hasVolume, releaseAt, deadlineAt, volumeAt}
 use Rattle.joblist.specs.Entries.{EntryCheck, entryMap, entrySize, valueIf, knownMaps, mapCheck}
 use Rattle.joblist.specs.Entries.{wholeCheck, fieldCheck, redundancyCheck, faultCheck, entryCheck, entriesCheck}
@@ -130,7 +130,7 @@ module _ (front more : List ℕ) (l : 453 < length front) where
   horizon-front = word-front front more 0 (omega arith)
 
   count-front : headerCount (front ++ more) ≡ headerCount front
-  count-front = List·getD-append front more 0 4 (omega arith)
+  count-front = ap countIn (List·getD-append front more 0 4 (omega arith))
 
   header-front : headerCheck (front ++ more) ≡ headerCheck front
   header-front =
