@@ -51,32 +51,32 @@ buffer-requires c κs = search needs
 
 array-share-prefix-releases : tie.Need-array-share-prefix-releases
 array-share-prefix-releases c =
-    let known = c .before .before in
+    let known = c .before in
     (read-list _ _ _ _ _ _ _ _ (was-read known .read .ensures) _ (known .before .read2 .given .1)) .releases
 
 slice-aggregate-plan : tie.Need-slice-aggregate-plan
 slice-aggregate-plan c =
-    let known = c .before .before .before in
+    let known = c .before .before in
     sym (length-take-le _ _ ((read-list _ _ _ _ _ _ _ _ (was-read known .read .ensures) _ (known .before .read2 .given .1)) .releases))
 
 array-share-prefix-deadlines : tie.Need-array-share-prefix-deadlines
 array-share-prefix-deadlines c =
-    let known = c .before .before .before in
+    let known = c .before .before in
     (read-list _ _ _ _ _ _ _ _ (was-read known .read .ensures) _ (known .before .read2 .given .1)) .deadlines
 
 slice-aggregate-plan-2 : tie.Need-slice-aggregate-plan-2
 slice-aggregate-plan-2 c =
-    let known = c .before .before .before .before in
+    let known = c .before .before .before in
     sym (length-take-le _ _ ((read-list _ _ _ _ _ _ _ _ (was-read known .read .ensures) _ (known .before .read2 .given .1)) .deadlines))
 
 array-share-prefix-volumes : tie.Need-array-share-prefix-volumes
 array-share-prefix-volumes c =
-    let known = c .before .before .before .before in
+    let known = c .before .before .before in
     (read-list _ _ _ _ _ _ _ _ (was-read known .read .ensures) _ (known .before .read2 .given .1)) .volumes
 
 slice-aggregate-plan-3 : tie.Need-slice-aggregate-plan-3
 slice-aggregate-plan-3 c =
-    let known = c .before .before .before .before .before in
+    let known = c .before .before .before .before in
     sym (length-take-le _ _ ((read-list _ _ _ _ _ _ _ _ (was-read known .read .ensures) _ (known .before .read2 .given .1)) .volumes))
 
 slice-aggregate-plan-4 : tie.Need-slice-aggregate-plan-4
