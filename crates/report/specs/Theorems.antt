@@ -27,7 +27,7 @@ run-lines-short slots l =
     let S = awakeOf slots in
     let few : length S ≤ 4096 = rw awake-of-length l in
     let short : (first run : ℕ) → first + run ≤ 4096 → length (runLine first run) ≤ 14 =
-        λ first run m. run-line-few 4 first run (omega arith) (omega arith) (omega arith) in
+    λ first run m. run-line-few 4 first run (omega arith) (omega arith) (omega arith) in
     omega (arith, lines-few 4096 14 short false 0 S (omega arith), runs-few false S few)
 
 pub text-fits : (outcome : Outcome) (slots : List ℕ) → length slots ≤ 4096 → length (textOf outcome slots) ≤ 28761
@@ -62,10 +62,10 @@ written-inside text out answer after n w e = go (decLe (length text) (length out
     go : Dec (length text ≤ length out) → n ≤ length out
     go (yes l) =
         let same : n ≡ length text =
-            ap (λ (x : TextWritten). getD (writtenValues x) 0 0)
-            (sym e ∙ w .same ∙ ap (textAnswer text) (length-passes (length out) (length text) l)) in
+        ap (λ (x : TextWritten). getD (writtenValues x) 0 0)
+        (sym e ∙ w .same ∙ ap (textAnswer text) (length-passes (length out) (length text) l)) in
         omega arith
     go (no l) =
         let z : _≡_ {A = ℕ} 0 17 =
-            ap writtenNumber (sym e ∙ w .same ∙ ap (textAnswer text) (length-fails (length out) (length text) (omega arith))) in
+        ap writtenNumber (sym e ∙ w .same ∙ ap (textAnswer text) (length-fails (length out) (length text) (omega arith))) in
         absurd (omega arith)
