@@ -89,5 +89,5 @@ module _ (outcome : Outcome) (h : ℕ) (table out : List ℕ) (answer : TextWrit
       Reports (line refusedWord (n ∷ at ∷ []) ++ runLines (take 0 table)) out answer after → Reports (textOf outcome (take h table)) out answer after
   refused-text r n at o e f w =
       let text : textOf outcome (take h table) ≡ line refusedWord (n ∷ at ∷ []) ++ runLines (take 0 table) =
-          ap (λ (x : Outcome). textOf x (take h table)) o ∙ sym (ap₂ (λ (x y : ℕ). line refusedWord (x ∷ y ∷ [])) e f) ∙ sym (no-runs (n ∷ at ∷ [])) in
+      ap (λ (x : Outcome). textOf x (take h table)) o ∙ sym (ap₂ (λ (x y : ℕ). line refusedWord (x ∷ y ∷ [])) e f) ∙ sym (no-runs (n ∷ at ∷ [])) in
       rw text w

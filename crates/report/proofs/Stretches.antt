@@ -105,7 +105,7 @@ lines-most table l =
     let S = awakeOf table in
     let long : length S ≡ length table = awake-of-length table in
     let short : (first slots : ℕ) → first + slots ≤ 65535 → length (runLine first slots) ≤ 16 =
-        λ first slots m. run-line-few 5 first slots (omega arith) (omega arith) (omega arith) in
+    λ first slots m. run-line-few 5 first slots (omega arith) (omega arith) (omega arith) in
     omega (arith, lines-few 65535 16 short false 0 S (omega arith), runs-at-most false S)
 
 -- their length, run by run
@@ -162,7 +162,7 @@ module _ (table out₀ : List ℕ) (at₀ : ℕ) (out : List ℕ) (at first : �
     pub lines-left-turn : (place : ℕ) (after : List ℕ) → PutAt out at (runLine first (behind - first)) place after → (next : ℕ) → StretchEnd table behind false next → LinesLeft table out₀ at₀ after place next
     lines-left-turn place after p next f =
         let put : ToPut out₀ at₀ (runLines table) after place (linesOf (runsLeft table behind)) =
-            put-part out₀ at₀ (runLines table) out at (runLine first (behind - first)) (linesOf (runsLeft table behind)) place after next-run p in
+        put-part out₀ at₀ (runLines table) out at (runLine first (behind - first)) (linesOf (runsLeft table behind)) place after next-run p in
         record { from = run-from table behind next f; put = rw (← stretch-asleep table behind next f) put }
 
   pub lines-left-end : length table ≤ first → PutAt out₀ at₀ (runLines table) at out

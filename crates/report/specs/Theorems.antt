@@ -1,9 +1,9 @@
 -- The program's buffer is long enough: of a table of at most 4,096 slots at most 28,761 bytes are printed, 2,048 lines of 14 bytes for the runs
 -- and 89 for the first line.
 use Prim.Native.Nat.{ℕ, _+_, _≤_}
-use mathlib.Core.Path.{_≡_, ap, _∙_}
+use mathlib.Core.Path.{_≡_, sym, ap, _∙_}
 use mathlib.Core.Bool.{false}
-use mathlib.Core.List.{List, [], _∷_, _++_}
+use mathlib.Core.List.{List, _∷_, _++_}
 use native.Mathlib.Decide.{decLe}
 use native.Mathlib.Omega.{arith}
 use lib.ListN.{length, getD, take, drop, length-append, length-take}
@@ -12,7 +12,6 @@ use Rattle.sched.specs.Slots.Laws.{awake-of-length}
 use Rattle.sched.specs.Energy.Laws.{runs-few}
 use Rattle.sched.specs.Refusals.{number}
 use Rattle.sched.specs.Checks.Laws.{length-passes, length-fails}
-use Rattle.sched.specs.declared.Checked.{Checked}
 use Rattle.sched.specs.declared.Checked.the-variants.{Passed}
 use Rattle.sched.specs.Outcomes.{outcomeValues}
 use Rattle.sched.specs.declared.Outcome.{Outcome}
@@ -28,7 +27,7 @@ run-lines-short slots l =
     let S = awakeOf slots in
     let few : length S ≤ 4096 = rw awake-of-length l in
     let short : (first run : ℕ) → first + run ≤ 4096 → length (runLine first run) ≤ 14 =
-        λ first run m. run-line-few 4 first run (omega arith) (omega arith) (omega arith) in
+    λ first run m. run-line-few 4 first run (omega arith) (omega arith) (omega arith) in
     omega (arith, lines-few 4096 14 short false 0 S (omega arith), runs-few false S few)
 
 pub text-fits : (outcome : Outcome) (slots : List ℕ) → length slots ≤ 4096 → length (textOf outcome slots) ≤ 28761
@@ -57,14 +56,16 @@ text-written outcome h table out answer after l room w =
     (w .same ∙ ap (textAnswer text) passed, w .bytes ∙ ap (textAfter text out) passed)
 
 -- What was written lies in the output.
-pub written-inside : (text out : List ℕ) (n : ℕ) (after : List ℕ) → Reports text out (Written n) after → n ≤ length out
-written-inside text out n after w = go (decLe (length text) (length out))
+pub written-inside : (text out : List ℕ) (answer : TextWritten) (after : List ℕ) (n : ℕ) → Reports text out answer after → answer ≡ Written n → n ≤ length out
+written-inside text out answer after n w e = go (decLe (length text) (length out))
   where
     go : Dec (length text ≤ length out) → n ≤ length out
     go (yes l) =
         let same : n ≡ length text =
-            ap (λ (x : TextWritten). getD (writtenValues x) 0 0) (w .same ∙ ap (textAnswer text) (length-passes (length out) (length text) l)) in
+        ap (λ (x : TextWritten). getD (writtenValues x) 0 0)
+        (sym e ∙ w .same ∙ ap (textAnswer text) (length-passes (length out) (length text) l)) in
         omega arith
     go (no l) =
-        let z : _≡_ {A = ℕ} 0 17 = w .number ∙ ap (λ (c : Checked). writtenNumber (textAnswer text c)) (length-fails (length out) (length text) (omega arith)) in
+        let z : _≡_ {A = ℕ} 0 17 =
+        ap writtenNumber (sym e ∙ w .same ∙ ap (textAnswer text) (length-fails (length out) (length text) (omega arith))) in
         absurd (omega arith)

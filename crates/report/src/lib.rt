@@ -44,7 +44,12 @@ pub fn write(outcome: Outcome, h: u16, table: &[u8], out: &mut [u8]) -> TextWrit
 {
     match outcome {
         Outcome::Planned(f) => {
-            let values = [f.energy as u64, f.awake as u64, f.runs as u64, f.added as u64];
+            let values = [
+                f.energy as u64,
+                f.awake as u64,
+                f.runs as u64,
+                f.added as u64,
+            ];
             let end = least(h as usize, table.len());
             write_text(b"plan", &values, &table[..end], out)
         }

@@ -91,7 +91,8 @@ returns c =
     let w = c .before .before in
     let least = w .before .before .before .before .before in
     let s = start least in
-    planned-text _ (s .args .h) (s .args .table .now) _ _ _ _ _ (least .before .before .before .before .before .before .outcome .given .1) (least .least .ensures) (w .write-text .ensures)
+    let planned = least .before .before .before .before .before .before in
+    planned-text _ (s .args .h) (s .args .table .now) _ _ _ _ _ (planned .outcome .given .1) (least .least .ensures) (w .write-text .ensures)
 
 same-length-2 : tie.Need-same-length-2
 same-length-2 c = search needs
@@ -112,7 +113,8 @@ returns-3 c =
     let place = w .before .before .before .before .before in
     let refused = place .before .before .before in
     let s = refused .before .before .before .before in
-    refused-text _ (s .args .h) (s .args .table .now) _ _ _ _ _ _ (refused .outcome3 .given .1) (place .before .number .ensures) (place .place .ensures) (w .write-text3 .ensures)
+    refused-text _ (s .args .h) (s .args .table .now) _ _ _ _ _ _ (refused .outcome3 .given .1) (place .before .number .ensures)
+    (place .place .ensures) (w .write-text3 .ensures)
 
 pub write-spec : {M : Type 1} → statement M
 write-spec =

@@ -236,7 +236,7 @@ take-awake (suc k) t (true ∷ S) some inside after =
     let e : suc t + k ≡ t + suc k = omega arith in
     let long : leading S ≡ k = sym (leading-is S k tail after) in
     let rest : runListFrom true (suc t) S ≡ runListFrom false (t + suc k) (drop k S) =
-        skip-awake k (suc t) S tail after ∙ ap (λ (n : ℕ). runListFrom false n (drop k S)) e in
+    skip-awake k (suc t) S tail after ∙ ap (λ (n : ℕ). runListFrom false n (drop k S)) e in
     rw (long, rest)
 
 -- the runs of a table from slot t on, where none is under way

@@ -19,7 +19,7 @@ put-requires c κs = simp length-set (omega (arith, c .before .before .pre))
 same-length : tie.Need-same-length
 same-length c =
     let s = c .before .before .before .before .before in
-    c .before .before .put .kept .1 .0 ∙ length-set (s .args .out .now) (s .args .at) 32
+    c .before .before .put .kept .1 .0 ∙ length-set (s .args .out .now) _ _
 
 returns : tie.Need-returns
 returns c =

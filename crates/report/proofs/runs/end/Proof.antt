@@ -22,7 +22,11 @@ is-awake-requires : tie.Need-is-awake-requires Inv-loop μ-loop
 is-awake-requires c κs = search needs
 
 returns : tie.Need-returns Inv-loop μ-loop
-returns c = reached-turn (c .before .before .before .before .before .before .args .table .now) (c .before .before .before .before .before .before .args .from) (c .before .before .before .before .before .before .args .awake) (c .before .before .before .before .loop .t) _ (c .before .before .before .before .loop .inv) (c .before .before .before .loop-test .taken) (c .before .is-awake .ensures) (c .if1 .taken)
+returns c =
+    let test = c .before .before .before in
+    let a = test .before .before .before .args in
+    reached-turn (a .table .now) (a .from) (a .awake) (test .before .loop .t) _ (test .before .loop .inv) (test .loop-test .taken)
+    (c .before .is-awake .ensures) (c .if1 .taken)
 
 add-t : tie.Need-add-t Inv-loop μ-loop
 add-t c = search needs
@@ -31,10 +35,16 @@ loop-less : tie.Need-loop-less Inv-loop μ-loop
 loop-less c = search needs
 
 loop-again : tie.Need-loop-again Inv-loop μ-loop
-loop-again c = reached-on (c .before .before .before .before .before .before .args .table .now) (c .before .before .before .before .before .before .args .from) (c .before .before .before .before .before .before .args .awake) (c .before .before .before .before .loop .t) _ (c .before .before .before .before .loop .inv) (c .before .before .before .loop-test .taken) (c .before .is-awake .ensures) (c .if1 .left)
+loop-again c =
+    let test = c .before .before .before in
+    let a = test .before .before .before .args in
+    reached-on (a .table .now) (a .from) (a .awake) (test .before .loop .t) _ (test .before .loop .inv) (test .loop-test .taken)
+    (c .before .is-awake .ensures) (c .if1 .left)
 
 returns-2 : tie.Need-returns-2 Inv-loop μ-loop
-returns-2 c = reached-end (c .before .before .before .args .table .now) (c .before .before .before .args .from) (c .before .before .before .args .awake) (c .before .loop .t) (c .before .loop .inv) (c .loop-test .left)
+returns-2 c =
+    let a = c .before .before .before .args in
+    reached-end (a .table .now) (a .from) (a .awake) (c .before .loop .t) (c .before .loop .inv) (c .loop-test .left)
 
 pub end-spec : {M : Type 1} → statement M
 end-spec =
