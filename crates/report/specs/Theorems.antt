@@ -54,18 +54,3 @@ text-written outcome h table out answer after l room w =
     let few : length (take h table) ≤ 4096 = simp length-take (omega arith) in
     let passed : textCheck text out ≡ Passed = length-passes (length out) (length text) (omega (arith, text-fits outcome (take h table) few)) in
     (w .same ∙ ap (textAnswer text) passed, w .bytes ∙ ap (textAfter text out) passed)
-
--- What was written lies in the output.
-pub written-inside : (text out : List ℕ) (answer : TextWritten) (after : List ℕ) (n : ℕ) → Reports text out answer after → answer ≡ Written n → n ≤ length out
-written-inside text out answer after n w e = go (decLe (length text) (length out))
-  where
-    go : Dec (length text ≤ length out) → n ≤ length out
-    go (yes l) =
-        let same : n ≡ length text =
-        ap (λ (x : TextWritten). getD (writtenValues x) 0 0)
-        (sym e ∙ w .same ∙ ap (textAnswer text) (length-passes (length out) (length text) l)) in
-        omega arith
-    go (no l) =
-        let z : _≡_ {A = ℕ} 0 17 =
-        ap writtenNumber (sym e ∙ w .same ∙ ap (textAnswer text) (length-fails (length out) (length text) (omega arith))) in
-        absurd (omega arith)
