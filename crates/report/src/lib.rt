@@ -12,7 +12,9 @@ mod line; // line.rt: a word and numbers behind it
 mod runs; // runs.rt: a line for each run of a table
 
 pub enum TextWritten {
+    // The length of the text.
     Written(usize),
+    // 17, with the length of the text.
     Refused(Refusal),
 }
 
