@@ -28,6 +28,6 @@ unfoldable pub printed : List ℕ → List ℕ
 printed input = printedAfter (readCheck input 64 64 64) input
 
 -- the first n bytes of a buffer are this text
-pub record Begins (text : List ℕ) (n : ℕ) (buffer : List ℕ) : Type 0 where
+pub record StartsWith (text : List ℕ) (n : ℕ) (buffer : List ℕ) : Type 0 where
   pub within : n ≤ length buffer
   pub bytes : take n buffer ≡ text

@@ -7,7 +7,7 @@ ghost use Rattle.sched.specs.declared.Refusal.{Refusal};
 ghost use Rattle.sched.specs.declared.Outcome.the-variants.{Refused};
 ghost use Rattle.joblist.specs.declared.ListRead.the-variants.{Refused as NotRead};
 ghost use Rattle.report.specs.Report.{textOf};
-ghost use Rattle.plan.specs.Program.{printed, Begins};
+ghost use Rattle.plan.specs.Program.{printed, StartsWith};
 use joblist::ListRead;
 use report::TextWritten;
 use sched::Outcome;
@@ -15,7 +15,7 @@ use sched::Outcome;
 // The text of an outcome, at the front of a buffer that is long enough for every text (`text-fits`, report/specs/Theorems); its length.
 fn put_text(outcome: Outcome, h: u16, table: &[u8], text: &mut [u8]) -> usize
     requires { ⌜ (h ≤ 4096) × (28761 ≤ length (now text)) ⌝ }
-    ensures { λ n. ⌜ Begins (textOf outcome (take h (now (table .entry)))) n (now (text .exit)) ⌝ }
+    ensures { λ n. ⌜ StartsWith (textOf outcome (take h (now (table .entry)))) n (now (text .exit)) ⌝ }
 {
     match report::write(outcome, h, table, text) {
         TextWritten::Written(n) => n,
@@ -26,7 +26,7 @@ fn put_text(outcome: Outcome, h: u16, table: &[u8], text: &mut [u8]) -> usize
 // The text of a list that was refused: number and place. One that was read has none here.
 fn put_refused(read: ListRead, text: &mut [u8]) -> usize
     requires { ⌜ 28761 ≤ length (now text) ⌝ }
-    ensures { λ n. ⌜ ((r : Refusal) → read ≡ NotRead r → Begins (textOf (Refused r) []) n (now (text .exit))) ⌝ }
+    ensures { λ n. ⌜ ((r : Refusal) → read ≡ NotRead r → StartsWith (textOf (Refused r) []) n (now (text .exit))) ⌝ }
 {
     match read {
         ListRead::Read(_) => 0,

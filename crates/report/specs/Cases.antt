@@ -2,15 +2,16 @@
 -- a definition is refused here.
 use mathlib.Core.Path.{_≡_, refl}
 use mathlib.Core.List.{[], _∷_}
+use Rattle.sched.specs.Cases.{thirdTable}
 use Rattle.sched.specs.Runs.{leading, runListFrom}
 use Rattle.sched.specs.declared.Outcome.the-variants.{Planned, Overloaded, Refused}
 use Rattle.sched.specs.declared.Refusal.the-variants.{Truncated}
 use Rattle.decimal.specs.Decimal.{digitsIn, digits}
 use Rattle.report.specs.Report.{numbers, linesOf, textOf}
 
--- plan 14 8 2 6, run 0 6, run 8 2; outcome and table are a row of `starred` (sched/specs/Cases)
+-- plan 14 8 2 6, run 0 6, run 8 2; the figures are those of its row in `starred` (sched/specs/Cases)
 pub third-text :
-    textOf (Planned (record { energy = 14; awake = 8; runs = 2; added = 6 })) (0 ∷ 2 ∷ 2 ∷ 2 ∷ 2 ∷ 2 ∷ 255 ∷ 255 ∷ 1 ∷ 1 ∷ []) ≡
+    textOf (Planned (record { energy = 14; awake = 8; runs = 2; added = 6 })) thirdTable ≡
     112 ∷ 108 ∷ 97 ∷ 110 ∷ 32 ∷ 49 ∷ 52 ∷ 32 ∷ 56 ∷ 32 ∷ 50 ∷ 32 ∷ 54 ∷ 10
     ∷ 114 ∷ 117 ∷ 110 ∷ 32 ∷ 48 ∷ 32 ∷ 54 ∷ 10
     ∷ 114 ∷ 117 ∷ 110 ∷ 32 ∷ 56 ∷ 32 ∷ 50 ∷ 10

@@ -1,17 +1,16 @@
 -- The program's buffer is long enough: of a table of at most 4,096 slots at most 28,761 bytes are printed, 2,048 lines of 14 bytes for the runs
 -- and 89 for the first line.
 use Prim.Native.Nat.{ℕ, _+_, _≤_}
-use mathlib.Core.Path.{_≡_, sym, ap, _∙_}
+use mathlib.Core.Path.{_≡_, ap, _∙_}
 use mathlib.Core.Bool.{false}
 use mathlib.Core.List.{List, _∷_, _++_}
-use native.Mathlib.Decide.{decLe}
 use native.Mathlib.Omega.{arith}
-use lib.ListN.{length, getD, take, drop, length-append, length-take}
+use lib.ListN.{length, take, drop, length-append, length-take}
 use Rattle.sched.specs.Slots.{awakeOf}
 use Rattle.sched.specs.Slots.Laws.{awake-of-length}
 use Rattle.sched.specs.Energy.Laws.{runs-few}
 use Rattle.sched.specs.Refusals.{number}
-use Rattle.sched.specs.Checks.Laws.{length-passes, length-fails}
+use Rattle.sched.specs.Checks.Laws.{length-passes}
 use Rattle.sched.specs.declared.Checked.the-variants.{Passed}
 use Rattle.sched.specs.Outcomes.{outcomeValues}
 use Rattle.sched.specs.declared.Outcome.{Outcome}
@@ -19,7 +18,7 @@ use Rattle.sched.specs.declared.Outcome.the-variants.{Planned, Overloaded, Refu
 use Rattle.report.specs.declared.TextWritten.{TextWritten}
 use Rattle.report.specs.declared.TextWritten.the-variants.{Written}
 use Rattle.report.specs.Report.{line, planWord, refusedWord, runLine, runLines, textOf}
-use Rattle.report.specs.Report.{textCheck, textAnswer, textAfter, writtenNumber, writtenValues, Reports}
+use Rattle.report.specs.Report.{textCheck, textAnswer, textAfter, Reports}
 use Rattle.report.specs.Report.Laws.{numbers-few, line-length, run-line-few, lines-few}
 
 run-lines-short : (slots : List ℕ) → length slots ≤ 4096 → length (runLines slots) ≤ 28672

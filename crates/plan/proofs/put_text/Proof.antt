@@ -1,5 +1,5 @@
 use borrow.Author.Needs.{needs}
-use Rattle.plan.proofs.Printing.{begins, never-short}
+use Rattle.plan.proofs.Printing.{starts-with, never-short}
 use Rattle.plan.proofs.put_text.Statement.{statement}
 use Rattle.plan.proofs.put_text.Tie as tie
 
@@ -19,7 +19,7 @@ returns : tie.Need-returns
 returns c =
     let told = c .before .before .before .before .before in
     let start = told .before .before .before .before in
-    begins (start .args .outcome) _ (start .args .table .now) _ _ _ (start .pre .0) (start .pre .1) (told .write .ensures) _ (c .before .n .given .1)
+    starts-with (start .args .outcome) _ (start .args .table .now) _ _ _ (start .pre .0) (start .pre .1) (told .write .ensures) _ (c .before .n .given .1)
 
 same-length-2 : tie.Need-same-length-2
 same-length-2 c = search needs
