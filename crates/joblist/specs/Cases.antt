@@ -16,7 +16,7 @@ use Rattle.joblist.specs.Reading.{readCheck, listOf, reading}
 use Rattle.joblist.specs.declared.ListRead.the-variants.{Read}
 
 -- "The third case in hex"
-abbrev thirdBytes : List ℕ
+abbrev pub thirdBytes : List ℕ
 thirdBytes =
     0x0A ∷ 0x00 ∷ 0x03 ∷ 0x00 ∷ 0x03 ∷ 0x02 ∷ 0x03 ∷ 0x00 ∷ 0x05 ∷ 0x08 ∷ 0x00 ∷ 0x02 ∷ 0x00 ∷ 0x04 ∷ 0x05 ∷ 0x00 ∷ []
 

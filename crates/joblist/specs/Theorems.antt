@@ -14,12 +14,13 @@ use Rattle.sched.specs.declared.Checked.{Checked}
 use Rattle.sched.specs.declared.Checked.the-variants.{Passed, Refused as Faulty}
 use Rattle.sched.specs.declared.Refusal.{Refusal}
 use Rattle.sched.specs.Refusals.{place}
+use Rattle.sched.specs.Refusals.Laws.{refusal-number}
 use Rattle.joblist.specs.Bytes.{AreBytes, headerCount, spelling}
 use Rattle.joblist.specs.Entries.{releaseOf}
-use Rattle.joblist.specs.Reading.{LentRoom, readCheck, listOf, Reading, reading}
+use Rattle.joblist.specs.Reading.{LentRoom, readCheck, listOf, Reading, reading, readNumber}
 use Rattle.joblist.specs.Writing.{Writing, spellCheck, writtenIf, writing}
 use Rattle.joblist.specs.declared.ListWritten.the-variants.{Written}
-use Rattle.joblist.specs.Laws.Input.{read-passed, read-passes, reading-accepted}
+use Rattle.joblist.specs.Laws.Input.{read-passed, read-passes, reading-accepted, reading-refused}
 use Rattle.joblist.specs.Theorems.Handed.{read-list}
 use Rattle.joblist.specs.Laws.Places.{PlaceWithin, read-within}
 use Rattle.joblist.specs.Laws.Lists.{list-back, spelling-good, count-back, field-count, input-again, list-passes}
@@ -99,7 +100,7 @@ pub place-small : (bytes : List ℕ) (r d p : ℕ) (x : Refusal) → readCheck b
 place-small bytes r d p x e = subst (PlaceWithin 453) e (read-within bytes r d p)
 
 -- 5. "Given as bytes, it passes if the bytes are the one spelling of such a list": the reader takes bytes exactly where they spell a list that
--- passes the list checks and the lent lists have room for it; they spell no other, and by `spelling-list` it is the list that is read.
+-- passes the list checks and the lent lists have room for it; they spell no other, and by `read-after-write` it is the list that is read.
 
 pub record SpellsOnly (bytes : List ℕ) (J : Jobs) : Type 0 where
   pub passes : Passes J
@@ -107,12 +108,24 @@ pub record SpellsOnly (bytes : List ℕ) (J : Jobs) : Type 0 where
   pub spelled : bytes ≡ spelling J
   pub only : (K : Jobs) → Passes K → K .start ≡ false → bytes ≡ spelling K → K ≡ J
 
-pub read-iff-spelled : (bytes : List ℕ) (r d p : ℕ) → AreBytes bytes →
-    (readCheck bytes r d p ≡ Passed) ↔ ((J : Jobs) × (SpellsOnly bytes J × LentRoom (count J) r d p))
-read-iff-spelled bytes r d p small = (spells, taken)
+pub read-iff-spelled : (bytes rs ds ps : List ℕ) → AreBytes bytes →
+    (readNumber (reading bytes rs ds ps .answer) ≡ 0) ↔ ((J : Jobs) × (SpellsOnly bytes J × LentRoom (count J) (length rs) (length ds) (length ps)))
+read-iff-spelled bytes rs ds ps small = (λ z. spells z (readCheck bytes r d p) refl, taken)
   where
-    spells : readCheck bytes r d p ≡ Passed → (J : Jobs) × (SpellsOnly bytes J × LentRoom (count J) r d p)
-    spells e =
+    r : ℕ
+    r = length rs
+
+    d : ℕ
+    d = length ds
+
+    p : ℕ
+    p = length ps
+
+    spells : readNumber (reading bytes rs ds ps .answer) ≡ 0 → (c : Checked) → readCheck bytes r d p ≡ c →
+        (J : Jobs) × (SpellsOnly bytes J × LentRoom (count J) r d p)
+    spells z (Faulty x) e =
+        absurd (refusal-number x (sym (ap (λ (y : Reading). readNumber (y .answer)) (reading-refused bytes rs ds ps x e)) ∙ z))
+    spells z Passed e =
         let g = read-passed bytes r d p e in (
           listOf bytes,
           (
@@ -126,8 +139,10 @@ read-iff-spelled bytes r d p small = (spells, taken)
           ),
         )
 
-    taken : (J : Jobs) × (SpellsOnly bytes J × LentRoom (count J) r d p) → readCheck bytes r d p ≡ Passed
-    taken (J, (one, room)) = rw (one .spelled) (spelling-read J r d p (one .passes) room)
+    taken : (J : Jobs) × (SpellsOnly bytes J × LentRoom (count J) r d p) → readNumber (reading bytes rs ds ps .answer) ≡ 0
+    taken (J, (one, room)) =
+        ap (λ (b : List ℕ). readNumber (reading b rs ds ps .answer)) (one .spelled)
+        ∙ ap (λ (y : Reading). readNumber (y .answer)) (read-after-write J rs ds ps (one .asleep) (one .passes) room)
 
 -- The same of the writer itself, with a buffer that is long enough
 

@@ -15,7 +15,7 @@ use Rattle.judge.specs.declared.Judged.the-variants.{Refused}
 use Rattle.judge.specs.Faults.{faultsCheck}
 use Rattle.judge.specs.Verdict.{accepts, judgeCheck, judged, judgedNumber, judgedValues, Just, Judges}
 use Rattle.judge.specs.Verdict.Laws.{faults-decide}
-use Rattle.judge.specs.Theorems.{judge-is-just}
+use Rattle.judge.specs.Theorems.{accepted-checked, judge-is-just}
 
 module _ (J : Jobs) (table : List ℕ) where
   judges : (c : Checked) (answer : Judged) → judgeCheck J table ≡ c → answer ≡ accepts c (tableFigures J (take (J .horizon) table)) → Judges J table answer
@@ -26,6 +26,7 @@ module _ (J : Jobs) (table : List ℕ) where
         number = ap judgedNumber same;
         values = ap judgedValues same;
         same = same;
+        checked = λ z. accepted-checked J table (sym (ap judgedNumber same) ∙ z);
         just = λ p l. subst (Just J (take (J .horizon) table)) (sym same) (judge-is-just J table p l);
       }
 

@@ -1,4 +1,4 @@
--- 01, "Plans worked by hand": the third plan as the judge sees it, with its two runs, and a table with a fault of each kind at one slot.
+-- 01, "Plans worked by hand": the third plan as the judge sees it, with its two runs; and a table for each kind of fault, one of them with two at one slot.
 -- Closed cases, so that an edit of a definition is refused here.
 use mathlib.Core.Path.{_≡_, refl}
 use mathlib.Core.List.{[], _∷_}

@@ -49,12 +49,13 @@ pub record Just (J : Jobs) (slots : List ℕ) (answer : Judged) : Type 0 where
   pub feasible-accepted : Feasible J slots → judgedNumber answer ≡ 0
   pub figures : judgedNumber answer ≡ 0 → judgedValues answer ≡ energy J (awakeOf slots) ∷ awakeSlots (awakeOf slots) ∷ runs (awakeOf slots) ∷ []
 
--- the promise: the number and the values that come back are those of the definition, and so is the case; and the answer is just, for a list
--- that passes the list checks and a table of at least H bytes
+-- the promise: the number and the values that come back are those of the definition, and so is the case; only for a list that passes the list
+-- checks and a table of at least H bytes is a table accepted, and for these the answer is just
 pub record Judges (J : Jobs) (table : List ℕ) (answer : Judged) : Type 0 where
   pub number : judgedNumber answer ≡ judgedNumber (judged J table)
   pub values : judgedValues answer ≡ judgedValues (judged J table)
   pub same : answer ≡ judged J table
+  pub checked : judgedNumber answer ≡ 0 → Passes J × (J .horizon ≤ length table)
   pub just : Passes J → J .horizon ≤ length table → Just J (take (J .horizon) table) answer
 
 -- what is promised of a table of just H bytes, for every list with these fields and this wake cost

@@ -16,7 +16,7 @@ use Rattle.joblist.specs.Reading.{readCheck, listOf}
 use Rattle.joblist.specs.declared.ListHeader.{ListHeader}
 use Rattle.joblist.specs.declared.ListRead.{ListRead}
 use Rattle.joblist.specs.declared.ListRead.the-variants.{Read, Refused as NotRead}
-use Rattle.report.specs.Report.{textOf, writtenNumber, writtenValues, Reports}
+use Rattle.report.specs.Report.{textOf, writtenNumber, writtenValues, TextPromise}
 use Rattle.report.specs.Theorems.{text-written}
 use Rattle.report.specs.declared.TextWritten.{TextWritten}
 use Rattle.report.specs.declared.TextWritten.the-variants.{Written, Refused as NotWritten}
@@ -25,7 +25,7 @@ use Rattle.plan.specs.Program.{lentTable, printedPlan, printedAfter, pri
 
 -- the writer's answer, in a buffer that is long enough: the text's length, never 17
 module _ (outcome : Outcome) (h : ℕ) (table out : List ℕ) (answer : TextWritten) (after : List ℕ) (l : h ≤ 4096) (room : 28761 ≤ length out)
-    (w : Reports (textOf outcome (take h table)) out answer after) where
+    (w : TextPromise (textOf outcome (take h table)) out answer after) where
   text : List ℕ
   text = textOf outcome (take h table)
 

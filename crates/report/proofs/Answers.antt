@@ -19,7 +19,7 @@ use Rattle.sched.specs.declared.Outcome.{Outcome}
 use Rattle.sched.specs.declared.Outcome.the-variants.{Planned, Overloaded, Refused as RefusedOutcome}
 use Rattle.report.specs.declared.TextWritten.{TextWritten}
 use Rattle.report.specs.declared.TextWritten.the-variants.{Written, Refused}
-use Rattle.report.specs.Report.{planWord, refusedWord, line, linesOf, runLines, textOf, textCheck, textAnswer, textAfter, writtenNumber, writtenValues, Reports, PutAt}
+use Rattle.report.specs.Report.{planWord, refusedWord, line, linesOf, runLines, textOf, textCheck, textAnswer, textAfter, writtenNumber, writtenValues, TextPromise, PutAt}
 use Rattle.report.proofs.Putting.{ToPut, put-none, put-part}
 
 pub text-size : (word values slots : List ℕ) (n m : ℕ) → n ≡ length (line word values) → m ≡ length (runLines slots) → n + m ≡ length (line word values ++ runLines slots)
@@ -35,7 +35,7 @@ text-put front rest out behind out₁ end out₂ room p q =
 
 module _ (text out : List ℕ) (n : ℕ) (e : n ≡ length text) where
   answers : (c : Checked) (answer : TextWritten) (after : List ℕ) → lengthCheck (length out) n ≡ c → answer ≡ textAnswer text c →
-      after ≡ textAfter text out c → Reports text out answer after
+      after ≡ textAfter text out c → TextPromise text out answer after
   answers c answer after f a o =
       let tested : textCheck text out ≡ c = ap (lengthCheck (length out)) (sym e) ∙ f in
       let same : answer ≡ textAnswer text (textCheck text out) = a ∙ ap (textAnswer text) (sym tested) in
@@ -46,10 +46,10 @@ module _ (text out : List ℕ) (n : ℕ) (e : n ≡ length text) where
         bytes = o ∙ ap (textAfter text out) (sym tested);
       }
 
-  pub no-room : (r : Refusal) → lengthCheck (length out) n ≡ Faulty r → Reports text out (Refused r) out
+  pub no-room : (r : Refusal) → lengthCheck (length out) n ≡ Faulty r → TextPromise text out (Refused r) out
   no-room r f = answers (Faulty r) (Refused r) out f refl refl
 
-  pub has-room : (after : List ℕ) → lengthCheck (length out) n ≡ Passed → after ≡ text ++ drop (length text) out → Reports text out (Written n) after
+  pub has-room : (after : List ℕ) → lengthCheck (length out) n ≡ Passed → after ≡ text ++ drop (length text) out → TextPromise text out (Written n) after
   has-room after f o = answers Passed (Written n) after f (ap Written e) o
 
 -- the first h bytes of a table, or all of them
@@ -72,8 +72,8 @@ module _ (h k : ℕ) (table : List ℕ) (e : k ≡ min h (length table)) where
 
 module _ (outcome : Outcome) (h : ℕ) (table out : List ℕ) (answer : TextWritten) (after : List ℕ) where
   pub planned-text : (f : PlanFigures) (k : ℕ) → outcome ≡ Planned f → k ≡ min h (length table) →
-      Reports (line planWord (f .energy ∷ f .awake ∷ f .runs ∷ f .added ∷ []) ++ runLines (take k table)) out answer after →
-      Reports (textOf outcome (take h table)) out answer after
+      TextPromise (line planWord (f .energy ∷ f .awake ∷ f .runs ∷ f .added ∷ []) ++ runLines (take k table)) out answer after →
+      TextPromise (textOf outcome (take h table)) out answer after
   planned-text f k o e w = rw (o, ← front-is h k table e) w
 
   -- without a table there are no runs
@@ -81,12 +81,12 @@ module _ (outcome : Outcome) (h : ℕ) (table out : List ℕ) (answer : TextWrit
   unfolding linesOf runListFrom
   no-runs values = append-nil (line refusedWord values)
 
-  pub overload-text : (i : Interval) → outcome ≡ Overloaded i → Reports (line refusedWord (18 ∷ i .a ∷ i .b ∷ []) ++ runLines (take 0 table)) out answer after →
-      Reports (textOf outcome (take h table)) out answer after
+  pub overload-text : (i : Interval) → outcome ≡ Overloaded i → TextPromise (line refusedWord (18 ∷ i .a ∷ i .b ∷ []) ++ runLines (take 0 table)) out answer after →
+      TextPromise (textOf outcome (take h table)) out answer after
   overload-text i o w = rw (o, ← no-runs (18 ∷ i .a ∷ i .b ∷ [])) w
 
   pub refused-text : (r : Refusal) (n at : ℕ) → outcome ≡ RefusedOutcome r → n ≡ number r → at ≡ place r →
-      Reports (line refusedWord (n ∷ at ∷ []) ++ runLines (take 0 table)) out answer after → Reports (textOf outcome (take h table)) out answer after
+      TextPromise (line refusedWord (n ∷ at ∷ []) ++ runLines (take 0 table)) out answer after → TextPromise (textOf outcome (take h table)) out answer after
   refused-text r n at o e f w =
       let text : textOf outcome (take h table) ≡ line refusedWord (n ∷ at ∷ []) ++ runLines (take 0 table) =
       ap (λ (x : Outcome). textOf x (take h table)) o ∙ sym (ap₂ (λ (x y : ℕ). line refusedWord (x ∷ y ∷ [])) e f) ∙ sym (no-runs (n ∷ at ∷ [])) in

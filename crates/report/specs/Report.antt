@@ -87,7 +87,7 @@ writtenValues (Written n) = n ∷ []
 writtenValues (Refused r) = place r ∷ []
 
 -- the promise for a text: number and values of the answer, its case, and every byte of the output
-pub record Reports (text out : List ℕ) (answer : TextWritten) (after : List ℕ) : Type 0 where
+pub record TextPromise (text out : List ℕ) (answer : TextWritten) (after : List ℕ) : Type 0 where
   pub number : writtenNumber answer ≡ writtenNumber (textAnswer text (textCheck text out))
   pub values : writtenValues answer ≡ writtenValues (textAnswer text (textCheck text out))
   pub same : answer ≡ textAnswer text (textCheck text out)

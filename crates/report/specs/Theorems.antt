@@ -18,7 +18,7 @@ use Rattle.sched.specs.declared.Outcome.the-variants.{Planned, Overloaded, Refu
 use Rattle.report.specs.declared.TextWritten.{TextWritten}
 use Rattle.report.specs.declared.TextWritten.the-variants.{Written}
 use Rattle.report.specs.Report.{line, planWord, refusedWord, runLine, runLines, textOf}
-use Rattle.report.specs.Report.{textCheck, textAnswer, textAfter, Reports}
+use Rattle.report.specs.Report.{textCheck, textAnswer, textAfter, TextPromise}
 use Rattle.report.specs.Report.Laws.{numbers-few, line-length, run-line-few, lines-few}
 
 run-lines-short : (slots : List ℕ) → length slots ≤ 4096 → length (runLines slots) ≤ 28672
@@ -47,7 +47,7 @@ text-fits (Refused r) slots l =
 -- So a buffer of that many bytes never gives 17: the text is written.
 pub text-written : (outcome : Outcome) (h : ℕ) (table out : List ℕ) (answer : TextWritten) (after : List ℕ) → h ≤ 4096 → 28761 ≤ length out →
     let text = textOf outcome (take h table) in
-    Reports text out answer after → (answer ≡ Written (length text)) × (after ≡ text ++ drop (length text) out)
+    TextPromise text out answer after → (answer ≡ Written (length text)) × (after ≡ text ++ drop (length text) out)
 text-written outcome h table out answer after l room w =
     let text = textOf outcome (take h table) in
     let few : length (take h table) ≤ 4096 = simp length-take (omega arith) in

@@ -3,7 +3,7 @@ ghost use mathlib.Core.Path.{_≡_};
 ghost use mathlib.Core.List.{_++_};
 ghost use Prim.Native.Nat.{min};
 ghost use lib.ListN.{take};
-ghost use Rattle.report.specs.Report.{line, runLines, textOf, Reports, Printable};
+ghost use Rattle.report.specs.Report.{line, runLines, textOf, TextPromise, Printable};
 use sched::Checked;
 use sched::Outcome;
 use sched::Refusal;
@@ -21,7 +21,7 @@ pub enum TextWritten {
 // A line, and behind it those of the runs.
 fn write_text(word: &[u8], values: &[u64], slots: &[u8], out: &mut [u8]) -> TextWritten
     requires { ⌜ Printable (now word) (now values) (now slots) ⌝ }
-    ensures { λ r. ⌜ Reports (line (now (word .entry)) (now (values .entry)) ++ runLines (now (slots .entry))) (now (out .entry)) r (now (out .exit)) ⌝ }
+    ensures { λ r. ⌜ TextPromise (line (now (word .entry)) (now (values .entry)) ++ runLines (now (slots .entry))) (now (out .entry)) r (now (out .exit)) ⌝ }
 {
     let n = line::size(word, values) + runs::size(slots);
     match sched::check_length(out.len(), n) {
@@ -42,7 +42,7 @@ fn least(a: usize, b: usize) -> usize
 
 // The text of an outcome, with the runs in the first h bytes of the table, or in all where it has fewer.
 pub fn write(outcome: Outcome, h: u16, table: &[u8], out: &mut [u8]) -> TextWritten
-    ensures { λ r. ⌜ Reports (textOf outcome (take h (now (table .entry)))) (now (out .entry)) r (now (out .exit)) ⌝ }
+    ensures { λ r. ⌜ TextPromise (textOf outcome (take h (now (table .entry)))) (now (out .entry)) r (now (out .exit)) ⌝ }
 {
     match outcome {
         Outcome::Planned(f) => {

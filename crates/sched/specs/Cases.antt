@@ -1,5 +1,5 @@
 -- 01, "Plans worked by hand": the starred plans, in one table, and the one claim that the definitions give just these, so that a wrong edit
--- of a definition is refused here. What 01 does not name (some skeletons, orders and tables) was computed by a separate search. Where 01 says
+-- of a definition is refused here. What 01 does not name (some skeletons, orders, tables and figures) was computed by a separate search. Where 01 says
 -- that a plan is not the best, its row has a rival's table that costs less, and the claim speaks of that, too.
 use Prim.Native.Nat.{ℕ, suc, _<_}
 use mathlib.Core.Path.{_≡_, refl}
@@ -15,7 +15,7 @@ use Rattle.sched.specs.Bounded.Laws.{and-true}
 use Rattle.sched.specs.Jobs.{Jobs, jobsOf}
 use Rattle.sched.specs.Checks.{checkFrom}
 use Rattle.sched.specs.Slots.{awakeOf, times, allSets}
-use Rattle.sched.specs.Energy.{awakeSlots, runsFrom, energy}
+use Rattle.sched.specs.Energy.{awakeSlots, runs, runsFrom, energy}
 use Rattle.sched.specs.Feasible.{Feasible}
 use Rattle.sched.specs.Feasible.Laws.{feasibleTest, test-feasible}
 use Rattle.sched.specs.Overload.{volumeIf, volumeInside, overloaded, overloadEndingAt, shownOverload}
@@ -59,9 +59,10 @@ pub record Worked : Type 0 where
   pub number : ℕ
   pub values : List ℕ
 
--- a rival's table, and what it costs
+-- a rival's table, its runs, and what it costs
 pub record Rival : Type 0 where
   pub table : List ℕ
+  pub runs : ℕ
   pub energy : ℕ
 
 -- a row of the table below; the rival is there for a plan that is not the best
@@ -112,15 +113,15 @@ overloads J a b =
       rival = none;
     }
 
--- the same row, with a table that costs so much
-beaten : List ℕ → ℕ → Row → Row
-beaten tab cost row = record { worked = row .worked; rival = some (record { table = tab; energy = cost }) }
+-- the same row, with a table of so many runs that costs so much
+beaten : List ℕ → ℕ → ℕ → Row → Row
+beaten tab n cost row = record { worked = row .worked; rival = some (record { table = tab; runs = n; energy = cost }) }
 
 pub starred : List Row
 starred =
     plans (jobs 12 3 (job 0 4 2 ∷ job 6 10 2 ∷ [])) (4 ∷ 5 ∷ []) (3 ∷ 2 ∷ 6 ∷ 7 ∷ [])
     (255 ∷ 255 ∷ 0 ∷ 0 ∷ 254 ∷ 254 ∷ 1 ∷ 1 ∷ 255 ∷ 255 ∷ 255 ∷ 255 ∷ []) (9 ∷ 6 ∷ 1 ∷ 4 ∷ [])
-    ∷ beaten (255 ∷ 255 ∷ 0 ∷ 0 ∷ 255 ∷ 255 ∷ 1 ∷ 1 ∷ 255 ∷ 255 ∷ 255 ∷ 255 ∷ []) 6
+    ∷ beaten (255 ∷ 255 ∷ 0 ∷ 0 ∷ 255 ∷ 255 ∷ 1 ∷ 1 ∷ 255 ∷ 255 ∷ 255 ∷ 255 ∷ []) 2 6
     (plans (jobs 12 1 (job 0 4 2 ∷ job 6 10 2 ∷ [])) (4 ∷ 5 ∷ []) (3 ∷ 2 ∷ 6 ∷ 7 ∷ [])
     (255 ∷ 255 ∷ 0 ∷ 0 ∷ 254 ∷ 254 ∷ 1 ∷ 1 ∷ 255 ∷ 255 ∷ 255 ∷ 255 ∷ []) (7 ∷ 6 ∷ 1 ∷ 4 ∷ []))
     ∷ plans third (3 ∷ 9 ∷ []) (2 ∷ 1 ∷ 0 ∷ 4 ∷ 5 ∷ 8 ∷ []) thirdTable (14 ∷ 8 ∷ 2 ∷ 6 ∷ [])
@@ -134,9 +135,11 @@ starred =
     ∷ plans (jobs 1 65535 (job 0 1 1 ∷ [])) (0 ∷ []) [] (0 ∷ []) (65536 ∷ 1 ∷ 1 ∷ 0 ∷ [])
     ∷ []
 
--- "Two separate runs would cost 6, so a plan need not be the best": the rival's table is feasible, costs this, and that is less than the plan
+-- "Two separate runs would cost 6, so a plan need not be the best": the rival's table is feasible, has these runs, costs this, and that is less
+-- than the plan
 pub record Cheaper (w : Worked) (r : Rival) : Type 0 where
   pub feasible : Feasible (w .list) (r .table)
+  pub separate : runs (awakeOf (r .table)) ≡ r .runs
   pub costs : energy (w .list) (awakeOf (r .table)) ≡ r .energy
   pub less : r .energy < energy (w .list) (awakeOf (w .table))
 
@@ -151,17 +154,22 @@ cheaperTest : Worked → Option Rival → Bool
 cheaperTest w none = true
 cheaperTest w (some r) =
     feasibleTest (w .list) (r .table)
-    && (eqb (energy (w .list) (awakeOf (r .table))) (r .energy) && ltb (r .energy) (energy (w .list) (awakeOf (w .table))))
+    && (eqb (runs (awakeOf (r .table))) (r .runs)
+    && (eqb (energy (w .list) (awakeOf (r .table))) (r .energy) && ltb (r .energy) (energy (w .list) (awakeOf (w .table)))))
 
 test-cheaper : (w : Worked) (r : Rival) → cheaperTest w (some r) ≡ true → Cheaper w r
 unfolding cheaperTest
 test-cheaper w r e =
     let costs = energy (w .list) (awakeOf (r .table)) in
     let plan-costs = energy (w .list) (awakeOf (w .table)) in
-    let (feasible, rest) = and-true (feasibleTest (w .list) (r .table)) (eqb costs (r .energy) && ltb (r .energy) plan-costs) e in
+    let some = runs (awakeOf (r .table)) in
+    let (feasible, behind) =
+    and-true (feasibleTest (w .list) (r .table)) (eqb some (r .runs) && (eqb costs (r .energy) && ltb (r .energy) plan-costs)) e in
+    let (separate, rest) = and-true (eqb some (r .runs)) (eqb costs (r .energy) && ltb (r .energy) plan-costs) behind in
     let (same, less) = and-true (eqb costs (r .energy)) (ltb (r .energy) plan-costs) rest in
     record {
       feasible = test-feasible (w .list) (r .table) feasible;
+      separate = eqb-true some (r .runs) separate;
       costs = eqb-true costs (r .energy) same;
       less = ltb-true (r .energy) plan-costs less;
     }
