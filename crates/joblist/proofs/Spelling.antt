@@ -1,21 +1,23 @@
 -- The bytes of a list, stored one part after the other.
-use Prim.Native.Nat.{ℕ, suc, _+_, _≤_, _<_, _%_, _/_}
+use Prim.Native.Nat.{ℕ, _+_, _≤_, _<_, _%_, _/_}
 use mathlib.Core.Path.{_≡_, refl, ap, _∙_, sym}
 use mathlib.Core.Bool.{Bool, true, false}
 use mathlib.Core.List.{List, [], _∷_, _++_}
-use native.Mathlib.Nat.{add-zero, suc-add, add-suc}
+use native.Mathlib.Nat.{add-zero}
 use native.Mathlib.Numerals.{add-one}
 use native.Mathlib.Omega.{arith}
 use borrow.Author.Tests.{eq-eqb, ne-eqb}
 use lib.ListN.{length, getD, drop, set, length-append, drop-of-length-le}
-use lib.Seq.{drop-cons, sets, length-sets}
+use lib.Seq.{drop-cons, sets}
 use Rattle.sched.specs.Jobs.{Jobs, count}
 use Rattle.sched.specs.TwoBytes.{twoBytes}
+use Rattle.sched.specs.Buffers.{PutAt}
+use Rattle.sched.specs.Buffers.Laws.{sets-append, put-length}
 use Rattle.joblist.specs.Bytes.{headerLength, countByte, absentRelease, absentDeadline, absentVolume, stands}
 use Rattle.sched.specs.Bits.{bit}
 use Rattle.sched.specs.Bits.Laws.{bit-small}
 use Rattle.joblist.specs.Bytes.{mapByte, bytesIf, entryBytes, entriesBytes, spelling}
-use Rattle.joblist.specs.Parts.{EqualLists, PutAt}
+use Rattle.joblist.specs.Parts.{EqualLists}
 
 -- Lengths
 
@@ -66,19 +68,12 @@ module _ (h : ℕ) (rs ds ps : List ℕ) (same : EqualLists rs ds ps) where
 
 -- Stores
 
-pub sets-append : (xs ys out : List ℕ) (i : ℕ) → sets out i (xs ++ ys) ≡ sets (sets out i xs) (i + length xs) ys
-sets-append [] ys out i = rw add-zero
-sets-append (x ∷ xs) ys out i = sets-append xs ys (set out i x) (suc i) ∙ rw (suc-add, add-suc)
-
 pub put-no-field : (out : List ℕ) (absent x at : ℕ) → x ≡ absent → PutAt out at (bytesIf (stands absent x) x) at out
 put-no-field out absent x at e = rw (eq-eqb x absent e) (record { next = sym (add-zero at); stored = refl })
 
 pub put-field : (out : List ℕ) (absent x at : ℕ) → (x ≡ absent → ⊥) →
     PutAt out at (bytesIf (stands absent x) x) (at + 2) (set (set out at (x % 256)) (at + 1) (x / 256))
 put-field out absent x at e = rw (ne-eqb x absent e) (record { next = refl; stored = rw add-one })
-
-pub put-length : (out out′ xs : List ℕ) (at end : ℕ) → PutAt out at xs end out′ → length out′ ≡ length out
-put-length out out′ xs at end f = ap length (f .stored) ∙ length-sets out at xs
 
 -- one part behind another
 put-both : (out out₁ out₂ xs ys : List ℕ) (at next end : ℕ) → PutAt out at xs next out₁ → PutAt out₁ next ys end out₂ →

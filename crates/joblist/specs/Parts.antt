@@ -4,7 +4,6 @@ use mathlib.Core.Path.{_≡_}
 use mathlib.Core.Bool.{Bool}
 use mathlib.Core.List.{List, _++_}
 use lib.ListN.{length, take, drop}
-use lib.Seq.{sets}
 use Rattle.sched.specs.Checks.{andThen, jobCheck}
 use Rattle.sched.specs.declared.Checked.{Checked}
 use Rattle.sched.specs.declared.Checked.the-variants.{Passed, Refused as Faulty}
@@ -85,8 +84,3 @@ pub record EqualLists (rs ds ps : List ℕ) : Type 0 where
 pub record Puttable (h : ℕ) (rs ds ps out : List ℕ) : Type 0 where
   pub lists : EqualLists rs ds ps
   pub room : headerLength + length (entriesBytes h rs ds ps) ≤ length out
-
--- bytes stored from an offset on, and the offset behind them
-pub record PutAt (out : List ℕ) (at : ℕ) (bytes : List ℕ) (end : ℕ) (out′ : List ℕ) : Type 0 where
-  pub next : end ≡ at + length bytes
-  pub stored : out′ ≡ sets out at bytes

@@ -10,7 +10,8 @@ ghost use Rattle.sched.specs.TwoBytes.{twoBytes};
 ghost use Rattle.sched.specs.Bits.{bit};
 ghost use Rattle.joblist.specs.Bytes.{headerLength, countByte, absentRelease, absentDeadline, absentVolume, mapByte, stands};
 ghost use Rattle.joblist.specs.Bytes.{bytesIf, entryBytes, entriesBytes, spelling};
-ghost use Rattle.joblist.specs.Parts.{EqualLists, Puttable, PutAt};
+ghost use Rattle.sched.specs.Buffers.{PutAt};
+ghost use Rattle.joblist.specs.Parts.{EqualLists, Puttable};
 
 fn bit(stands: bool) -> u8
     ensures { λ r. ⌜ r ≡ bit stands ⌝ }

@@ -19,7 +19,8 @@ use Rattle.sched.specs.declared.Outcome.{Outcome}
 use Rattle.sched.specs.declared.Outcome.the-variants.{Planned, Overloaded, Refused as RefusedOutcome}
 use Rattle.report.specs.declared.TextWritten.{TextWritten}
 use Rattle.report.specs.declared.TextWritten.the-variants.{Written, Refused}
-use Rattle.report.specs.Report.{planWord, refusedWord, line, linesOf, runLines, textOf, textCheck, textAnswer, textAfter, writtenNumber, writtenValues, TextPromise, PutAt}
+use Rattle.sched.specs.Buffers.{PutAt}
+use Rattle.report.specs.Report.{planWord, refusedWord, line, linesOf, runLines, textOf, textCheck, textAnswer, textAfter, writtenNumber, writtenValues, TextPromise}
 use Rattle.report.proofs.Putting.{ToPut, put-none, put-part}
 
 pub text-size : (word values slots : List ℕ) (n m : ℕ) → n ≡ length (line word values) → m ≡ length (runLines slots) → n + m ≡ length (line word values ++ runLines slots)

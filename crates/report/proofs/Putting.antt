@@ -1,24 +1,17 @@
 -- Bytes put one part after the other, from a place on: words, numbers, and lines.
-use Prim.Native.Nat.{ℕ, suc, _+_, _≤_, _<_}
+use Prim.Native.Nat.{ℕ, _+_, _≤_, _<_}
 use mathlib.Core.Path.{_≡_, refl, sym, ap, _∙_}
 use mathlib.Core.List.{List, [], _∷_, _++_}
 use native.Mathlib.Numerals.{add-one}
 use native.Mathlib.Nat.{zero-add}
 use native.Mathlib.Omega.{arith}
 use lib.ListN.{length, getD, set, drop, length-set, length-append, drop-of-length-le}
-use lib.Seq.{sets, sets-eq, length-sets, drop-cons}
+use lib.Seq.{sets, sets-eq, drop-cons}
 use Rattle.decimal.specs.Decimal.{digits, PutsDigits}
-use Rattle.report.specs.Report.{numbers, line, PutAt}
+use Rattle.sched.specs.Buffers.{PutAt}
+use Rattle.sched.specs.Buffers.Laws.{sets-append, put-length}
+use Rattle.report.specs.Report.{numbers, line}
 use Rattle.report.specs.Report.Laws.{numbers-few}
-
-sets-append : (vs ws out : List ℕ) (at : ℕ) → sets out at (vs ++ ws) ≡ sets (sets out at vs) (at + length vs) ws
-sets-append [] ws out at = ap (λ (i : ℕ). sets out i ws) (omega arith)
-sets-append (v ∷ vs) ws out at =
-    let e : suc at + length vs ≡ at + suc (length vs) = omega arith in
-    sets-append vs ws (set out at v) (suc at) ∙ ap (λ (i : ℕ). sets (sets (set out at v) (suc at) vs) i ws) e
-
-pub put-length : (out : List ℕ) (at : ℕ) (bytes : List ℕ) (end : ℕ) (after : List ℕ) → PutAt out at bytes end after → length after ≡ length out
-put-length out at bytes end after p = ap length (p .stored) ∙ length-sets out at bytes
 
 -- of the bytes `all`, which go to out₀ from at₀ on, `rest` is still to be put, from `at` on
 pub record ToPut (out₀ : List ℕ) (at₀ : ℕ) (all out : List ℕ) (at : ℕ) (rest : List ℕ) : Type 0 where
@@ -35,7 +28,7 @@ module _ (out₀ : List ℕ) (at₀ : ℕ) (all out : List ℕ) (at : ℕ) where
   put-part part rest next after t p =
       record {
         ends = omega (arith, t .ends, p .next, length-append part rest);
-        long = put-length out at part next after p ∙ t .long;
+        long = put-length out after part at next p ∙ t .long;
         stored = t .stored ∙ sets-append part rest out at ∙ rw (p .stored, p .next);
       }
 

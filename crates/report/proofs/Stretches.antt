@@ -13,7 +13,8 @@ use Rattle.sched.specs.Slots.Laws.{awake-of, awake-of-length}
 use Rattle.sched.specs.Energy.Laws.{room, runs-at-most}
 use Rattle.sched.specs.Runs.{Run, StretchEnd, runListFrom}
 use Rattle.sched.specs.Runs.Laws.{runsLeft, stretch-asleep, stretch-awake}
-use Rattle.report.specs.Report.{runLine, linesOf, runLines, PutAt}
+use Rattle.sched.specs.Buffers.{PutAt}
+use Rattle.report.specs.Report.{runLine, linesOf, runLines}
 use Rattle.report.specs.Report.Laws.{run-line-few, lines-few}
 use Rattle.report.proofs.Putting.{ToPut, put-none, put-part, put-room, put-all}
 

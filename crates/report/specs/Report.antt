@@ -1,10 +1,9 @@
 -- 01, "Plans worked by hand", last paragraph: the text that a program prints of an outcome and its table; what the writer puts out for each
 -- lent output; and the number and values of each answer.
-use Prim.Native.Nat.{ℕ, _+_, _≤_}
+use Prim.Native.Nat.{ℕ, _≤_}
 use mathlib.Core.Path.{_≡_}
 use mathlib.Core.List.{List, [], _∷_, _++_}
 use lib.ListN.{length, drop}
-use lib.Seq.{sets}
 use Rattle.sched.specs.Slots.{awakeOf}
 use Rattle.sched.specs.Runs.{Run, runList}
 use Rattle.sched.specs.Refusals.{number, place}
@@ -93,12 +92,7 @@ pub record TextPromise (text out : List ℕ) (answer : TextWritten) (after : Lis
   pub same : answer ≡ textAnswer text (textCheck text out)
   pub bytes : after ≡ textAfter text out (textCheck text out)
 
--- what the writer's parts promise: bytes stored from a place on, and the place behind them
-pub record PutAt (out : List ℕ) (at : ℕ) (bytes : List ℕ) (end : ℕ) (after : List ℕ) : Type 0 where
-  pub next : end ≡ at + length bytes
-  pub stored : after ≡ sets out at bytes
-
--- a word and numbers that fit one line, and a table of at most 65,535 slots
+-- what the writer's parts ask: a word and numbers that fit one line, and a table of at most 65,535 slots
 pub record Printable (word values slots : List ℕ) : Type 0 where
   pub short : length word ≤ 7
   pub few : length values ≤ 4

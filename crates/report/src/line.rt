@@ -4,7 +4,8 @@ ghost use mathlib.Core.List.{_∷_};
 ghost use Prim.Native.Nat.{_+_, _≤_};
 ghost use lib.ListN.{length};
 ghost use Rattle.decimal.specs.Decimal.{digits};
-ghost use Rattle.report.specs.Report.{numbers, line, PutAt};
+ghost use Rattle.sched.specs.Buffers.{PutAt};
+ghost use Rattle.report.specs.Report.{numbers, line};
 
 fn numbers_size(values: &[u64]) -> usize
     requires { ⌜ length (now values) ≤ 4 ⌝ }

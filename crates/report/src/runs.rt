@@ -6,7 +6,8 @@ ghost use lib.ListN.{length};
 ghost use lib.Dec.{eqb};
 ghost use Rattle.sched.specs.Slots.{asleep};
 ghost use Rattle.sched.specs.Runs.{StretchEnd};
-ghost use Rattle.report.specs.Report.{runLine, runLines, PutAt};
+ghost use Rattle.sched.specs.Buffers.{PutAt};
+ghost use Rattle.report.specs.Report.{runLine, runLines};
 use crate::line;
 
 fn is_awake(byte: u8) -> bool

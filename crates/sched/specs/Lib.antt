@@ -3,6 +3,7 @@ pub mod Bounded
 pub mod Bits
 pub mod Jobs
 pub mod TwoBytes
+pub mod Buffers
 pub mod Refusals
 pub mod Checks
 pub mod Slots

@@ -4,8 +4,9 @@ use native.Mathlib.Omega.{arith}
 use mathlib.Core.Path.{_≡_, _∙_}
 use lib.ListN.{length, set, length-set}
 use Rattle.joblist.specs.Bytes.{entryBytes}
-use Rattle.joblist.specs.Parts.{PutAt}
-use Rattle.joblist.proofs.Spelling.{entry-length, put-length, put-entry}
+use Rattle.sched.specs.Buffers.{PutAt}
+use Rattle.sched.specs.Buffers.Laws.{put-length}
+use Rattle.joblist.proofs.Spelling.{entry-length, put-entry}
 use Rattle.joblist.proofs.writer.put_entry.Statement.{statement}
 use Rattle.joblist.proofs.writer.put_entry.Tie as tie
 

@@ -1,7 +1,8 @@
 -- `line::put` meets its contract: the numbers stand behind the word, and byte 10 behind them.
 use native.Mathlib.Omega.{arith}
 use Rattle.report.specs.Report.Laws.{line-length}
-use Rattle.report.proofs.Putting.{put-length, numbers-fit, end-fits, line-put}
+use Rattle.sched.specs.Buffers.Laws.{put-length}
+use Rattle.report.proofs.Putting.{numbers-fit, end-fits, line-put}
 use Rattle.report.proofs.line.put.Statement.{statement}
 use Rattle.report.proofs.line.put.Tie as tie
 
