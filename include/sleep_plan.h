@@ -35,12 +35,14 @@ extern "C" {
 #define SLEEP_PLAN_OUT_OF_RANGE 12 /* place 0: H is not 1 to 4096; place 4: more than 64 jobs */
 #define SLEEP_PLAN_UNKNOWN_BIT 13  /* a map byte has one of bits 3 to 7; place: its offset in the list */
 #define SLEEP_PLAN_REDUNDANT 14    /* a field is spelled out although it has its absent value; place: the field's offset */
-#define SLEEP_PLAN_BAD_JOB 15      /* r is not below d, or d is above H, or p is 0; place: the job's number */
+#define SLEEP_PLAN_EMPTY_SPAN 15   /* r of a job is not below its d; place: the job's number */
 #define SLEEP_PLAN_LEFT_OVER 16    /* bytes follow the last job; place: the offset of the first of them */
 #define SLEEP_PLAN_TOO_SHORT 17    /* the table has fewer than H bytes; place: H. Or the block has fewer than 16 bytes: then nothing
                                       is written, and there is no place */
 #define SLEEP_PLAN_OVERLOADED 18   /* no plan exists; the block's first two numbers are a and b: the jobs with a <= r and d <= b have
                                       more volume together than the b - a slots between a and b */
+#define SLEEP_PLAN_PAST_HORIZON 25 /* d of a job is above H; place: the job's number */
+#define SLEEP_PLAN_NO_VOLUME 26    /* p of a job is 0; place: the job's number */
 
 /* Plans the jobs of a list.
  *
@@ -57,7 +59,8 @@ extern "C" {
  *   returned                  first H bytes of table    first 16 bytes of block
  *   0                         the plan                  cost, awake slots, runs, added
  *   18                        unchanged                 a, b, 0, 0
- *   11 to 16, 17 for table    unchanged                 place, 0, 0, 0
+ *   11 to 16, 25, 26,         unchanged                 place, 0, 0, 0
+ *   17 for table
  *   17, block_len below 16    unchanged                 unchanged
  *
  * Bytes of the table behind the first H, and bytes of the block behind the first 16, are never changed; the list never is.
@@ -65,8 +68,8 @@ extern "C" {
  * it had chosen where to be awake at all; it is of interest for comparing plans only.
  *
  * Checks are made in this order, and the first that fails is told: the block's length (17); the list's header (11, then 12 at 0, then 12
- * at 4); for each job in turn its map byte (11, 13), its fields (11, 14 in the order release, deadline, volume) and their values (15);
- * bytes behind the last job (16); the table's length (17); overload (18).
+ * at 4); for each job in turn its map byte (11, 13), its fields (11, 14 in the order release, deadline, volume) and their values (25, 15,
+ * 26); bytes behind the last job (16); the table's length (17); overload (18).
  *
  * The caller's duty: each buffer is valid for its length (list for reading, table and block for writing) until the call returns, nobody
  * else writes to them meanwhile, and no two of them share a byte. If buffers do share bytes, nothing is promised of what comes back; as

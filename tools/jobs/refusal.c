@@ -8,7 +8,9 @@ static const char *rule(uint32_t number, uint32_t place) {
   case SLEEP_PLAN_OUT_OF_RANGE: return place ? "a list has at most 64 jobs" : "a list has 1 to 4096 slots";
   case SLEEP_PLAN_UNKNOWN_BIT: return "of its bits only 0, 1 and 2 may stand";
   case SLEEP_PLAN_REDUNDANT: return "a release of 0, a deadline equal to the number of slots and a volume of 1 are left out";
-  case SLEEP_PLAN_BAD_JOB: return "the release must be below the deadline, the deadline at most the number of slots, the volume at least 1";
+  case SLEEP_PLAN_PAST_HORIZON: return "a deadline is at most the number of slots";
+  case SLEEP_PLAN_EMPTY_SPAN: return "a release is below its deadline";
+  case SLEEP_PLAN_NO_VOLUME: return "a volume is at least 1";
   case SLEEP_PLAN_LEFT_OVER: return "the last job ends before it";
   default: return "this tool has no words for the reason";
   }
@@ -51,12 +53,18 @@ static void tell_found(const struct source *s) {
   case SLEEP_PLAN_REDUNDANT:
     tell_field(&as_bytes, s->bytes, place);
     break;
-  case SLEEP_PLAN_BAD_JOB: {
-    const struct job *job = &s->list.jobs[place];
+  case SLEEP_PLAN_PAST_HORIZON:
     job_label(&s->list, place, label);
-    fprintf(stderr, "%s is %u..%u volume %u in %u slots", label, job->release, job->deadline, job->volume, s->list.slots);
+    fprintf(stderr, "the deadline of %s is %u in %u slots", label, s->list.jobs[place].deadline, s->list.slots);
     break;
-  }
+  case SLEEP_PLAN_EMPTY_SPAN:
+    job_label(&s->list, place, label);
+    fprintf(stderr, "the span of %s is %u..%u", label, s->list.jobs[place].release, s->list.jobs[place].deadline);
+    break;
+  case SLEEP_PLAN_NO_VOLUME:
+    job_label(&s->list, place, label);
+    fprintf(stderr, "the volume of %s is %u", label, s->list.jobs[place].volume);
+    break;
   case SLEEP_PLAN_LEFT_OVER:
     fprintf(stderr, "the byte at offset %lu is %02X hex", (unsigned long)place, s->bytes[place]);
     break;
@@ -68,7 +76,7 @@ static void tell_found(const struct source *s) {
 /* The line that the place stands for: of the slots, of the first job that is too many, of the job that is named. */
 static unsigned long line_of(const struct source *s) {
   uint32_t place = s->plan.numbers[PLACE];
-  if (s->plan.returned == SLEEP_PLAN_BAD_JOB) return s->list.jobs[place].origin;
+  if (s->plan.returned != SLEEP_PLAN_OUT_OF_RANGE) return s->list.jobs[place].origin;
   return place ? s->list.jobs[SLEEP_PLAN_JOBS_MAX].origin : s->list.slots_line;
 }
 

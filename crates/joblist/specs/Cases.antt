@@ -8,7 +8,7 @@ use Rattle.sched.specs.Jobs.{Jobs, jobsOf, count}
 use Rattle.sched.specs.Checks.{Passes, checkFrom}
 use Rattle.sched.specs.Checks.Laws.{passed-passes}
 use Rattle.sched.specs.Cases.{third}
-use Rattle.sched.specs.declared.Refusal.the-variants.{Redundant, BadJob, LeftOver}
+use Rattle.sched.specs.declared.Refusal.the-variants.{Redundant, NoVolume, LeftOver}
 use Rattle.sched.specs.declared.Checked.the-variants.{Refused}
 use Rattle.joblist.specs.Bytes.{entryBytes, entriesBytes, spelling}
 use Rattle.joblist.specs.Entries.{mapCheck, redundancyCheck, entryCheck, entriesCheck, column}
@@ -56,12 +56,12 @@ pub byte-left-over : readCheck (spelling longest ++ (0 ∷ [])) 64 64 64 ≡ Ref
 unfolding spelling entriesBytes entryBytes mapCheck redundancyCheck entryCheck entriesCheck
 byte-left-over = refl
 
--- job 0 is (5, 5, 1), and its volume stands: 14 comes before 15
-pub field-before-job : readCheck (10 ∷ 0 ∷ 0 ∷ 0 ∷ 1 ∷ 7 ∷ 5 ∷ 0 ∷ 5 ∷ 0 ∷ 1 ∷ 0 ∷ []) 64 64 64 ≡ Refused (Redundant 10)
+-- job 0 is (5, 11, 1), and its volume stands: 14 comes before 25
+pub field-before-job : readCheck (10 ∷ 0 ∷ 0 ∷ 0 ∷ 1 ∷ 7 ∷ 5 ∷ 0 ∷ 11 ∷ 0 ∷ 1 ∷ 0 ∷ []) 64 64 64 ≡ Refused (Redundant 10)
 unfolding mapCheck redundancyCheck entryCheck entriesCheck
 field-before-job = refl
 
 -- job 0 has volume 0, and the map byte of job 1 an unknown bit: a fault of an earlier job comes first
-pub earlier-job-first : readCheck (10 ∷ 0 ∷ 0 ∷ 0 ∷ 2 ∷ 4 ∷ 0 ∷ 0 ∷ 8 ∷ []) 64 64 64 ≡ Refused (BadJob 0)
+pub earlier-job-first : readCheck (10 ∷ 0 ∷ 0 ∷ 0 ∷ 2 ∷ 4 ∷ 0 ∷ 0 ∷ 8 ∷ []) 64 64 64 ≡ Refused (NoVolume 0)
 unfolding mapCheck redundancyCheck entryCheck entriesCheck
 earlier-job-first = refl

@@ -64,7 +64,7 @@ redundancyCheck h at bs =
     (andThen (fieldCheck (hasDeadline (entryMap bs)) (absentDeadline h) (deadlineAt (entryMap bs)) at bs)
     (fieldCheck (hasVolume (entryMap bs)) absentVolume (volumeAt (entryMap bs)) at bs))
 
--- 15 for the job that is read, by a check of jobs
+-- the job that is read, by a check of jobs
 abbrev pub faultCheck : JobCheck → ℕ → ℕ → List ℕ → Checked
 faultCheck check h j bs = check h j (releaseOf bs) (deadlineOf h bs) (volumeOf bs)
 
@@ -72,7 +72,7 @@ faultCheck check h j bs = check h j (releaseOf bs) (deadlineOf h bs) (volumeOf b
 abbrev pub EntryCheck : Type 0
 EntryCheck = ℕ → ℕ → List ℕ → Checked
 
--- "11 for the map, 13, 11 for its fields, 14 in field order, 15"
+-- "11 for the map, 13, 11 for its fields, 14 in field order", then the job: "where 15 stood"
 unfoldable pub entryCheck : JobCheck → ℕ → ℕ → EntryCheck
 entryCheck check h n j at bs =
     andThen (mapCheck knownMaps n at bs)

@@ -44,7 +44,7 @@ abbrev pub entryOf : Checked → ℕ → List ℕ → Entry
 entryOf Passed h bs = Read (fieldsOf h bs)
 entryOf (Faulty r) h bs = Refused r
 
--- 14 and 15 of a whole entry
+-- of a whole entry, 14 and what is wrong with the job
 abbrev pub jobPart : ℕ → ℕ → ℕ → List ℕ → Checked
 jobPart h j at bs = andThen (redundancyCheck h at bs) (faultCheck jobCheck h j bs)
 

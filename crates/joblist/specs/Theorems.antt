@@ -28,6 +28,8 @@ use Rattle.joblist.specs.declared.ListHeader.{ListHeader}
 use Rattle.joblist.specs.declared.ListRead.the-variants.{Read}
 pub mod Handed
 pub mod Longest
+pub mod FaultyField
+pub mod OnlyNumber
 
 -- the reading that hands over just the list J, past which the lent lists keep their entries
 abbrev pub handsOver : Jobs → List ℕ → List ℕ → List ℕ → Reading

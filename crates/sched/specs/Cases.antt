@@ -1,5 +1,5 @@
 -- 01, "Plans worked by hand": the starred plans, in one table, and the one claim that the definitions give just these, so that a wrong edit
--- of a definition is refused here. What 01 does not name (some skeletons, orders, tables and figures) was computed by a separate search. Where 01 says
+-- of a definition is refused here; at the end, faulty jobs. What 01 does not name (some skeletons, orders, tables and figures) was computed by a separate search. Where 01 says
 -- that a plan is not the best, its row has a rival's table that costs less, and the claim speaks of that, too.
 use Prim.Native.Nat.{ℕ, suc, _<_}
 use mathlib.Core.Path.{_≡_, refl}
@@ -13,7 +13,7 @@ use lib.Dec.{ltb, eqb}
 use Rattle.sched.specs.Bounded.{total, anyBelow, allBelow, sumBelow, maxBelow, leastFrom, lastBelow, keep, firstLeast}
 use Rattle.sched.specs.Bounded.Laws.{and-true}
 use Rattle.sched.specs.Jobs.{Jobs, jobsOf}
-use Rattle.sched.specs.Checks.{checkFrom}
+use Rattle.sched.specs.Checks.{checkFrom, checkOf, checkedNumber, checkedValues}
 use Rattle.sched.specs.Slots.{awakeOf, times, allSets}
 use Rattle.sched.specs.Energy.{awakeSlots, runs, runsFrom, energy}
 use Rattle.sched.specs.Feasible.{Feasible}
@@ -203,3 +203,17 @@ unfolding members skeletonFor orderFor found plans overloads beaten starred chea
     helps wakeable nextWake wokenIn woken wakeAll extended earliest fillBy tableOf sleepRule tableFrom planTable
     figuresOf planned earlyAnswer planBy plan
 starred-plans = all-right starred refl refl
+
+-- 02, card 1: faulty jobs in eight slots behind a good one, each with the number that comes back. First each fault alone, then each pair, then
+-- all three; the last three are next to a fault and have none.
+pub job-faults :
+    map (λ x. checkedNumber (checkOf (jobs 8 1 (job 0 8 1 ∷ x ∷ []))))
+    (job 0 9 1 ∷ job 4 4 1 ∷ job 0 4 0 ∷ job 9 9 1 ∷ job 0 9 0 ∷ job 4 4 0 ∷ job 9 9 0 ∷ job 0 8 1 ∷ job 3 4 1 ∷ job 7 8 65535 ∷ [])
+    ≡ 25 ∷ 15 ∷ 26 ∷ 25 ∷ 25 ∷ 15 ∷ 25 ∷ 0 ∷ 0 ∷ 0 ∷ []
+unfolding checkFrom
+job-faults = refl
+
+-- the lowest faulty job is told, by its own number, whatever a later job's fault is
+pub lowest-job : checkedValues (checkOf (jobs 8 1 (job 0 8 1 ∷ job 0 4 0 ∷ job 9 9 0 ∷ []))) ≡ 1 ∷ []
+unfolding checkFrom
+lowest-job = refl

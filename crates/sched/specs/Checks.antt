@@ -1,6 +1,6 @@
--- 01, "Words of the plan", second paragraph: when a list passes the list checks; and "Refused, and where": the order in which planner, judge
--- and list writer find a fault, 12 for H, 19, 12 for the count, 15 for the lowest faulty job. The checks of H, of a length and of a table's
--- bytes stand by themselves, because others make them too.
+-- 01, "Words of the plan", second paragraph: when a list passes the list checks; and "Refused, and where" with 02's card 1: the order in
+-- which planner, judge and list writer find a fault, 12 for H, 19, 12 for the count, then 25, 15 or 26 for the lowest faulty job. The checks
+-- of H, of a length and of a table's bytes stand by themselves, because others make them too.
 use Prim.Native.Nat.{ℕ, zero, suc, _≤_, _<_}
 use mathlib.Core.Path.{_≡_}
 use mathlib.Core.Bool.{Bool, true, false, not, _&&_}
@@ -10,7 +10,7 @@ use lib.Dec.{leb, ltb, eqb}
 use Rattle.sched.specs.Jobs.{Jobs, count, release, deadline, volume}
 use Rattle.sched.specs.Refusals.{number, place}
 use Rattle.sched.specs.declared.Refusal.{Refusal}
-use Rattle.sched.specs.declared.Refusal.the-variants.{OutOfRange, BadJob, TooShort, Unequal, BadByte}
+use Rattle.sched.specs.declared.Refusal.the-variants.{OutOfRange, EmptySpan, TooShort, Unequal, BadByte, PastHorizon, NoVolume}
 use Rattle.sched.specs.declared.Checked.{Checked}
 use Rattle.sched.specs.declared.Checked.the-variants.{Passed, Refused}
 pub mod Laws
@@ -67,12 +67,12 @@ slotsCheck h table = andThen (tableCheck h (length table)) (bytesFrom h 0 table)
 abbrev pub JobCheck : Type 0
 JobCheck = ℕ → ℕ → ℕ → ℕ → ℕ → Checked
 
--- 15: "r not below d, or d above H, or p is 0"
+-- "25, the deadline is above H"; 15, "a release that is not before the deadline"; "26, the volume is 0"; "the place is still the job number"
 abbrev pub jobCheck : JobCheck
 jobCheck h j r d p =
-    refuseIf (leb d r) (BadJob j)
-    (refuseIf (ltb h d) (BadJob j)
-    (refuseIf (eqb p 0) (BadJob j) Passed))
+    refuseIf (ltb h d) (PastHorizon j)
+    (refuseIf (leb d r) (EmptySpan j)
+    (refuseIf (eqb p 0) (NoVolume j) Passed))
 
 -- the k jobs from number j on, each by the same check
 unfoldable pub checkFrom : JobCheck → ℕ → ℕ → ℕ → List ℕ → List ℕ → List ℕ → Checked
@@ -80,24 +80,27 @@ checkFrom check zero j h rs ds ps = Passed
 checkFrom check (suc k) j h rs ds ps =
     andThen (check h j (getD rs j 0) (getD ds j 0) (getD ps j 0)) (checkFrom check k (suc j) h rs ds ps)
 
--- "15 for the lowest faulty job"
-abbrev pub jobsCheck : ℕ → List ℕ → List ℕ → List ℕ → Checked
-jobsCheck h rs ds ps = checkFrom jobCheck (length rs) 0 h rs ds ps
+-- the lowest faulty job, by a check of jobs
+abbrev pub jobsCheck : JobCheck → ℕ → List ℕ → List ℕ → List ℕ → Checked
+jobsCheck check h rs ds ps = checkFrom check (length rs) 0 h rs ds ps
 
 -- 12: "more than 64 jobs (place 4)"
 abbrev pub countCheck : ℕ → Checked
 countCheck n = refuseIf (ltb 64 n) (OutOfRange 4) Passed
 
 -- the three lengths, the count, the jobs
-abbrev pub listsCheck : ℕ → List ℕ → List ℕ → List ℕ → Checked
-listsCheck h rs ds ps =
+abbrev pub listsCheck : JobCheck → ℕ → List ℕ → List ℕ → List ℕ → Checked
+listsCheck check h rs ds ps =
     refuseIf (not (eqb (length ds) (length rs))) (Unequal 0)
     (refuseIf (not (eqb (length ps) (length rs))) (Unequal 0)
-    (andThen (countCheck (length rs)) (jobsCheck h rs ds ps)))
+    (andThen (countCheck (length rs)) (jobsCheck check h rs ds ps)))
 
 -- behind 12 for H
+abbrev pub listCheckBy : JobCheck → ℕ → List ℕ → List ℕ → List ℕ → Checked
+listCheckBy check h rs ds ps = andThen (horizonCheck h) (listsCheck check h rs ds ps)
+
 abbrev pub listCheck : ℕ → List ℕ → List ℕ → List ℕ → Checked
-listCheck h rs ds ps = andThen (horizonCheck h) (listsCheck h rs ds ps)
+listCheck = listCheckBy jobCheck
 
 -- the same of a list, as planner, judge and list writer are lent it
 abbrev pub checkOf : Jobs → Checked

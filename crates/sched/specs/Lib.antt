@@ -18,4 +18,5 @@ pub mod Table
 pub mod Sleep
 pub mod Steps
 pub mod Outcomes
+pub mod Theorems
 pub mod Cases

@@ -1,7 +1,7 @@
--- 01, "Refused, and where": the returned number and the place of each refusal.
+-- 01, "Refused, and where", and 02: the returned number and the place of each refusal.
 use Prim.Native.Nat.{ℕ}
 use Rattle.sched.specs.declared.Refusal.{Refusal}
-use Rattle.sched.specs.declared.Refusal.the-variants.{Truncated, OutOfRange, UnknownBit, Redundant, BadJob, LeftOver, TooShort, Unequal, BadByte, TooOften, OutOfSpan, TooRare}
+use Rattle.sched.specs.declared.Refusal.the-variants.{Truncated, OutOfRange, UnknownBit, Redundant, EmptySpan, LeftOver, TooShort, Unequal, BadByte, TooOften, OutOfSpan, TooRare, PastHorizon, NoVolume}
 pub mod Laws
 
 abbrev pub number : Refusal → ℕ
@@ -9,7 +9,7 @@ number (Truncated at) = 11
 number (OutOfRange at) = 12
 number (UnknownBit at) = 13
 number (Redundant at) = 14
-number (BadJob at) = 15
+number (EmptySpan at) = 15
 number (LeftOver at) = 16
 number (TooShort at) = 17
 number (Unequal at) = 19
@@ -17,13 +17,15 @@ number (BadByte at) = 21
 number (TooOften at) = 22
 number (OutOfSpan at) = 23
 number (TooRare at) = 24
+number (PastHorizon at) = 25
+number (NoVolume at) = 26
 
 abbrev pub place : Refusal → ℕ
 place (Truncated at) = at
 place (OutOfRange at) = at
 place (UnknownBit at) = at
 place (Redundant at) = at
-place (BadJob at) = at
+place (EmptySpan at) = at
 place (LeftOver at) = at
 place (TooShort at) = at
 place (Unequal at) = at
@@ -31,3 +33,5 @@ place (BadByte at) = at
 place (TooOften at) = at
 place (OutOfSpan at) = at
 place (TooRare at) = at
+place (PastHorizon at) = at
+place (NoVolume at) = at

@@ -24,8 +24,8 @@ pub enum Refusal {
     UnknownBit(usize),
     // 14: the offset of a field that holds its absent value.
     Redundant(usize),
-    // 15: the number of a job with a bad field.
-    BadJob(usize),
+    // 15: the number of a job whose release is not before its deadline.
+    EmptySpan(usize),
     // 16: the offset of the first byte left over.
     LeftOver(usize),
     // 17: the size that a lent buffer or list needs.
@@ -40,6 +40,10 @@ pub enum Refusal {
     OutOfSpan(usize),
     // 24: the number of a job that stands too few times.
     TooRare(usize),
+    // 25: the number of a job whose deadline is above the horizon.
+    PastHorizon(usize),
+    // 26: the number of a job whose volume is 0.
+    NoVolume(usize),
 }
 
 // The answer of a check: it passes, or the first fault.
@@ -85,7 +89,7 @@ impl Refusal {
             Refusal::OutOfRange(_) => 12,
             Refusal::UnknownBit(_) => 13,
             Refusal::Redundant(_) => 14,
-            Refusal::BadJob(_) => 15,
+            Refusal::EmptySpan(_) => 15,
             Refusal::LeftOver(_) => 16,
             Refusal::TooShort(_) => 17,
             Refusal::Unequal(_) => 19,
@@ -93,6 +97,8 @@ impl Refusal {
             Refusal::TooOften(_) => 22,
             Refusal::OutOfSpan(_) => 23,
             Refusal::TooRare(_) => 24,
+            Refusal::PastHorizon(_) => 25,
+            Refusal::NoVolume(_) => 26,
         }
     }
 
@@ -104,7 +110,7 @@ impl Refusal {
             Refusal::OutOfRange(at) => at,
             Refusal::UnknownBit(at) => at,
             Refusal::Redundant(at) => at,
-            Refusal::BadJob(at) => at,
+            Refusal::EmptySpan(at) => at,
             Refusal::LeftOver(at) => at,
             Refusal::TooShort(at) => at,
             Refusal::Unequal(at) => at,
@@ -112,6 +118,8 @@ impl Refusal {
             Refusal::TooOften(at) => at,
             Refusal::OutOfSpan(at) => at,
             Refusal::TooRare(at) => at,
+            Refusal::PastHorizon(at) => at,
+            Refusal::NoVolume(at) => at,
         }
     }
 }
@@ -187,18 +195,18 @@ pub fn check_slots(h: u16, table: &[u8]) -> Checked
     }
 }
 
-// The check of one job; the list reader makes it too, at the job that it has just read.
+// 25, 15 and 26 for one job; the list reader makes this check too, at the job that it has just read.
 pub fn check_job(h: u16, job: usize, r: u16, d: u16, p: u16) -> Checked
     ensures { λ c. ⌜ CheckPromise (jobCheck h job r d p) c ⌝ }
 {
-    if d <= r {
-        return Checked::Refused(Refusal::BadJob(job));
-    }
     if h < d {
-        return Checked::Refused(Refusal::BadJob(job));
+        return Checked::Refused(Refusal::PastHorizon(job));
+    }
+    if d <= r {
+        return Checked::Refused(Refusal::EmptySpan(job));
     }
     if p == 0 {
-        return Checked::Refused(Refusal::BadJob(job));
+        return Checked::Refused(Refusal::NoVolume(job));
     }
     Checked::Passed
 }
@@ -206,7 +214,7 @@ pub fn check_job(h: u16, job: usize, r: u16, d: u16, p: u16) -> Checked
 // The first faulty job of three lists of one length, if there is one.
 fn check_jobs(h: u16, releases: &[u16], deadlines: &[u16], volumes: &[u16]) -> Checked
     requires { ⌜ (length (now deadlines) ≡ length (now releases)) × (length (now volumes) ≡ length (now releases)) ⌝ }
-    ensures { λ c. ⌜ c ≡ jobsCheck h (now (releases .entry)) (now (deadlines .entry)) (now (volumes .entry)) ⌝ }
+    ensures { λ c. ⌜ c ≡ jobsCheck jobCheck h (now (releases .entry)) (now (deadlines .entry)) (now (volumes .entry)) ⌝ }
 {
     let mut j = 0;
     while j < releases.len() {
@@ -224,7 +232,7 @@ fn check_jobs(h: u16, releases: &[u16], deadlines: &[u16], volumes: &[u16]) -> C
 
 // The list checks behind 12 for H.
 fn check_lists(h: u16, releases: &[u16], deadlines: &[u16], volumes: &[u16]) -> Checked
-    ensures { λ c. ⌜ c ≡ listsCheck h (now (releases .entry)) (now (deadlines .entry)) (now (volumes .entry)) ⌝ }
+    ensures { λ c. ⌜ c ≡ listsCheck jobCheck h (now (releases .entry)) (now (deadlines .entry)) (now (volumes .entry)) ⌝ }
 {
     if deadlines.len() != releases.len() {
         return Checked::Refused(Refusal::Unequal(0));

@@ -9,6 +9,7 @@ use joblist::ListWritten;
 
 mod show; // show.rt: what a case prints
 mod longest; // longest.rt: the longest list
+mod faulty; // faulty.rt: faulty jobs at the first, a middle and the last place
 
 // Three jobs: (0,3,1) (8,10,2) (0,10,5), horizon 10, wake cost 3.
 const EXAMPLE: [u8; 16] = [10, 0, 3, 0, 3, 2, 3, 0, 5, 8, 0, 2, 0, 4, 5, 0];
@@ -120,12 +121,14 @@ fn first_fields() {
     read(b"\x0a\x00\x03\x00\x01\x04\x01\x00");
 }
 
-// 15, and 16.
+// 15, 25, 26, and 16; 14 comes before the three.
 fn first_jobs() {
     read(b"\x0a\x00\x03\x00\x01\x03\x04\x00\x04\x00");
     read(b"\x0a\x00\x03\x00\x01\x03\x03\x00\x04\x00");
     read(b"\x0a\x00\x03\x00\x01\x02\x0b\x00");
     read(b"\x0a\x00\x03\x00\x01\x06\x04\x00\x00\x00");
+    read(b"\x0a\x00\x03\x00\x01\x07\x0b\x00\x0b\x00\x01\x00");
+    read(b"\x0a\x00\x03\x00\x01\x02\xff\xff");
     read(b"\x0a\x00\x03\x00\x00");
     read(b"\x0a\x00\x03\x00\x00\x00");
 }
@@ -276,4 +279,5 @@ fn main() {
     short_writer();
     long_writer();
     damage_each();
+    faulty::each();
 }

@@ -9,6 +9,7 @@ mod sweep; // sweep.rt: the comparison over all lists
 fn main() {
     refusals::worked();
     refusals::refused();
+    refusals::faults();
     refusals::ordered();
     sweep::all();
 }

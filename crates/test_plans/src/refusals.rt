@@ -166,6 +166,8 @@ pub fn worked() {
     tried(b"(4,4,1):", single(4, 4, 1));
     tried(b"(3,4,1):", single(3, 4, 1));
     tried(b"(0,4,0):", single(0, 4, 0));
+    tried(b"(4,4,0):", single(4, 4, 0));
+    tried(b"(9,9,0):", single(9, 9, 0));
     tried(b"d = H:", single(0, 8, 1));
     tried(b"d = H + 1:", single(0, 9, 1));
 }
@@ -194,6 +196,36 @@ pub fn refused() {
     tried(b"overload:", single(2, 5, 4));
 }
 
+// The k-th faulty job at place j of 64, with no table, so that 17 would come next; printed so behind `fault`, k and j.
+fn faulty(k: usize, j: usize) {
+    let job = test_faults::nth(k);
+    io::write_all(1, b"fault");
+    number(k as u64);
+    number(j as u64);
+    tried(
+        b":",
+        with_room(with_odd(plain(4096, 64), j, j, job.r, job.d, job.p), 0),
+    );
+}
+
+// The k-th faulty job at the first, a middle and the last place.
+fn placed(k: usize) {
+    faulty(k, 0);
+    faulty(k, 31);
+    faulty(k, 63);
+}
+
+// All seven faulty jobs.
+pub fn faults() {
+    placed(0);
+    placed(1);
+    placed(2);
+    placed(3);
+    placed(4);
+    placed(5);
+    placed(6);
+}
+
 // Lists with several faults, of which the first in the order is told, printed so.
 pub fn ordered() {
     let faulty = with_odd(plain(8, 65), 0, 0, 4, 4, 1);
@@ -204,10 +236,12 @@ pub fn ordered() {
     tried(b"19 before 12:", unequal);
     tried(b"12 before 15:", with_room(faulty, 0));
     tried(
-        b"15 before 17:",
+        b"26 before 17:",
         with_room(with_odd(plain(1, 3), 2, 2, 0, 1, 0), 0),
     );
-    tried(b"15 before 18:", with_odd(plain(1, 3), 2, 2, 0, 1, 0));
+    tried(b"26 before 18:", with_odd(plain(1, 3), 2, 2, 0, 1, 0));
+    tried(b"25 before 18:", with_odd(plain(1, 3), 2, 2, 0, 2, 1));
+    tried(b"15 before 18:", with_odd(plain(1, 3), 2, 2, 1, 1, 1));
     tried(b"17 before 18:", with_room(plain(1, 3), 0));
     tried(b"18 alone:", plain(1, 3));
 }

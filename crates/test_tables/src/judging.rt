@@ -1,13 +1,7 @@
 // The judge on its refusals, each at its first and last place.
 use super::show;
 use super::tables;
-
-// Release, deadline and volume.
-pub struct Job {
-    pub r: u16,
-    pub d: u16,
-    pub p: u16,
-}
+use test_faults::Job;
 
 // Judges the first len bytes of t against n equal jobs (at most 65), of which job k is another, and prints the answer.
 fn jobs(h: u16, q: u16, n: usize, job: Job, k: usize, other: Job, t: &[u8], len: usize) {
@@ -63,12 +57,53 @@ pub fn list_faults(t: &[u8]) {
     lengths(64, 64, 64, t);
 }
 
-// 15 for the first and the last job, a job that is just no fault, and 17, which comes after 15.
+// The k-th faulty job at the first, a middle and the last place of 64 jobs, with no table, so that 17 would come next.
+fn faulty(k: usize, t: &[u8]) {
+    let job = Job { r: 0, d: 1, p: 1 };
+    let other = test_faults::nth(k);
+    jobs(4096, 1, 64, job, 0, other, t, 0);
+    jobs(4096, 1, 64, job, 31, other, t, 0);
+    jobs(4096, 1, 64, job, 63, other, t, 0);
+}
+
+// All seven, and lists whose other jobs are faulty, too: the lowest is told.
+fn all_faulty(t: &[u8]) {
+    faulty(0, t);
+    faulty(1, t);
+    faulty(2, t);
+    faulty(3, t);
+    faulty(4, t);
+    faulty(5, t);
+    faulty(6, t);
+    jobs(
+        4096,
+        1,
+        64,
+        test_faults::nth(0),
+        0,
+        test_faults::nth(2),
+        t,
+        0,
+    );
+    jobs(
+        4096,
+        1,
+        64,
+        test_faults::nth(2),
+        63,
+        test_faults::nth(0),
+        t,
+        0,
+    );
+}
+
+// 25, 15 and 26, a job that is just no fault, and 17, which comes after them.
 pub fn job_faults(t: &[u8]) {
     let job = Job { r: 0, d: 1, p: 1 };
-    jobs(10, 1, 64, job, 0, Job { r: 4, d: 4, p: 1 }, t, 0);
+    all_faulty(t);
     jobs(10, 1, 64, job, 63, Job { r: 0, d: 11, p: 1 }, t, 0);
-    jobs(10, 1, 64, job, 63, Job { r: 0, d: 4, p: 0 }, t, 0);
+    jobs(10, 1, 64, job, 63, Job { r: 0, d: 10, p: 1 }, t, 9);
+    jobs(10, 1, 64, job, 63, Job { r: 4, d: 4, p: 1 }, t, 0);
     jobs(10, 1, 64, job, 63, Job { r: 3, d: 4, p: 1 }, t, 9);
     equal(1, 1, 1, job, t, 0);
     equal(4096, 1, 1, job, t, 4095);

@@ -8,7 +8,7 @@ from lists import random_list, to_bytes, to_text
 from pictures import Answer, check_svg, check_timeline, need
 
 SEED = 20261115
-SMALL, LARGE, TEXTS, BYTES = 300, 12, 400, 200
+SMALL, LARGE, TEXTS, BYTES = 300, 12, 400, 300
 JOBS, SANITIZED, ONE_CALL = sys.argv[1:4]
 
 
@@ -46,12 +46,12 @@ def try_list(rng, jobs, slots, wake, entries):
     return said[0]
 
 
-def damaged(rng, data):
-    """A few bytes struck out, put in, changed or repeated."""
+def damaged(rng, data, kinds=5):
+    """A few bytes struck out, put in, changed or repeated; with six kinds, also two bytes that become zero."""
     data = bytearray(data)
     for _ in range(rng.randint(1, 2)):
         at = rng.randint(0, len(data))
-        kind = rng.randrange(5)
+        kind = rng.randrange(kinds)
         if kind == 0:
             del data[at:at + rng.randint(1, 6)]
         elif kind == 1:
@@ -62,6 +62,8 @@ def damaged(rng, data):
             data[at:at] = data[at:at + rng.randint(1, 80)]
         elif kind == 4 and at < len(data):
             data[at] ^= 1 << rng.randrange(8)
+        elif kind == 5:
+            data[at:at + 2] = bytes(len(data[at:at + 2]))
     return bytes(data)
 
 
@@ -93,8 +95,8 @@ def main():
     for _ in range(TEXTS):
         text = damaged(rng, to_text(rng, *random_list(rng, rng.randint(1, 150), 8)).encode())
         exits[sound(*run(SANITIZED, rng.choice(["show", "svg", "bytes"]), stdin=text), "<stdin>:")] += 1
-    refused = [try_damaged_bytes(damaged(rng, to_bytes(*random_list(rng, rng.randint(1, 150), 8)))) for _ in range(BYTES)]
-    need({11, 12, 13, 14, 15, 16} <= set(refused), f"refusals seen: {sorted(set(refused))}")
+    refused = [try_damaged_bytes(damaged(rng, to_bytes(*random_list(rng, rng.randint(1, 150), 8)), 6)) for _ in range(BYTES)]
+    need({11, 12, 13, 14, 15, 16, 25, 26} <= set(refused), f"refusals seen: {sorted(set(refused))}")
     need(answers.count(0) > SMALL // 2 and answers.count(18) > 5 and min(exits) > 5, f"trials of one kind: {answers}, {exits}")
     print(f"{len(answers)} random lists ({answers.count(18)} overloaded, {LARGE} large), {TEXTS} damaged texts ({exits[2]} refused), "
           f"{BYTES} damaged lists ({sum(r not in (0, 18) for r in refused)} refused)")

@@ -10,8 +10,9 @@ use lib.ListN.{length, drop, length-drop}
 use lib.Dec.{leb, ltb, eqb}
 use Rattle.sched.specs.Refusals.{place}
 use Rattle.sched.specs.Checks.{JobCheck, refuseIf, andThen, horizonCheck, countCheck, lengthCheck, jobCheck}
+use Rattle.sched.specs.Checks.Laws.{job-place}
 use Rattle.sched.specs.declared.Refusal.{Refusal}
-use Rattle.sched.specs.declared.Refusal.the-variants.{Truncated, OutOfRange, UnknownBit, Redundant, BadJob, LeftOver, TooShort}
+use Rattle.sched.specs.declared.Refusal.the-variants.{Truncated, OutOfRange, UnknownBit, Redundant, LeftOver, TooShort}
 use Rattle.sched.specs.declared.Checked.{Checked}
 use Rattle.sched.specs.declared.Checked.the-variants.{Passed, Refused}
 use Rattle.joblist.specs.Bytes.{headerLength, headerHorizon, headerCount, absentRelease, absentDeadline, absentVolume, width}
@@ -58,11 +59,11 @@ module _ (m : ℕ) where
   length-within have need l = one-within (ltb have need) (TooShort need) (λ _. l)
 
   job-within : (h j r d p : ℕ) → j ≤ m → PlaceWithin m (jobCheck h j r d p)
-  job-within h j r d p l =
-      let volume = refuseIf (eqb p 0) (BadJob j) Passed in
-      let deadline = refuseIf (ltb h d) (BadJob j) volume in
-      if-within (leb d r) (BadJob j) deadline (λ _. l)
-      (λ _. if-within (ltb h d) (BadJob j) volume (λ _. l) (λ _. one-within (eqb p 0) (BadJob j) (λ _. l)))
+  job-within h j r d p l = within (jobCheck h j r d p) refl
+    where
+      within : (c : Checked) → jobCheck h j r d p ≡ c → PlaceWithin m c
+      within Passed e = tt
+      within (Refused x) e = omega (arith, job-place h j r d p x e)
 
   -- An entry
 

@@ -11,7 +11,7 @@ use Rattle.sched.proofs.check_jobs.Tie as tie
 
 abbrev Inv-loop : tie.InvT-loop
 Inv-loop h releases deadlines volumes j₀ j =
-    (j ≤ length releases) × (jobsCheck h releases deadlines volumes ≡ checkFrom jobCheck (length releases - j) j h releases deadlines volumes)
+    (j ≤ length releases) × (jobsCheck jobCheck h releases deadlines volumes ≡ checkFrom jobCheck (length releases - j) j h releases deadlines volumes)
 
 abbrev μ-loop : tie.MeasureT-loop
 μ-loop h releases deadlines volumes j₀ j = length releases - j

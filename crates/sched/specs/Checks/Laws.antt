@@ -1,6 +1,6 @@
 -- A list passes the checks in their order exactly when it passes the list checks of 01.
 use Prim.Native.Nat.{ℕ, zero, suc, _+_, _≤_, _<_}
-use mathlib.Core.Path.{_≡_, refl, ap}
+use mathlib.Core.Path.{_≡_, refl, ap, sym}
 use mathlib.Core.Bool.{Bool, true, false, not}
 use mathlib.Core.List.{List}
 use mathlib.Core.Logic.{_↔_}
@@ -10,9 +10,10 @@ use borrow.Author.Tests.{lt-leb, lt-ltb, le-ltb, eq-eqb, ne-eqb, leb-false, ltb-
 use lib.ListN.{length, getD}
 use lib.Dec.{leb, ltb, eqb}
 use Rattle.sched.specs.Jobs.{Jobs, count}
+use Rattle.sched.specs.Refusals.{place}
 use Rattle.sched.specs.Checks.{checkedNumber, checkedValues, CheckPromise, GoodJob, Passes, refuseIf, andThen, horizonCheck, lengthCheck, tableCheck, bytesFrom, slotsCheck, jobCheck, checkFrom, jobsCheck, countCheck, listsCheck, checkOf}
 use Rattle.sched.specs.declared.Refusal.{Refusal}
-use Rattle.sched.specs.declared.Refusal.the-variants.{OutOfRange, BadJob, TooShort, Unequal}
+use Rattle.sched.specs.declared.Refusal.the-variants.{OutOfRange, EmptySpan, TooShort, Unequal, PastHorizon, NoVolume}
 use Rattle.sched.specs.declared.Checked.{Checked}
 use Rattle.sched.specs.declared.Checked.the-variants.{Passed, Refused}
 
@@ -34,16 +35,32 @@ then-passed (Refused r) c e = refused-not-passed r e
 
 pub job-good : (h j r d p : ℕ) → jobCheck h j r d p ≡ Passed → GoodJob h r d p
 job-good h j r d p e =
-    let a = refuse-passed (leb d r) (BadJob j) (refuseIf (ltb h d) (BadJob j) (refuseIf (eqb p 0) (BadJob j) Passed)) e in
-    let b = refuse-passed (ltb h d) (BadJob j) (refuseIf (eqb p 0) (BadJob j) Passed) (a .1) in
-    let c = refuse-passed (eqb p 0) (BadJob j) Passed (b .1) in
-    record { span = leb-false d r (a .0); within = ltb-false h d (b .0); some = positive (eqb-false p 0 (c .0)) }
+    let volume = refuseIf (eqb p 0) (NoVolume j) Passed in
+    let span = refuseIf (leb d r) (EmptySpan j) volume in
+    let a = refuse-passed (ltb h d) (PastHorizon j) span e in
+    let b = refuse-passed (leb d r) (EmptySpan j) volume (a .1) in
+    let c = refuse-passed (eqb p 0) (NoVolume j) Passed (b .1) in
+    record { span = leb-false d r (b .0); within = ltb-false h d (a .0); some = positive (eqb-false p 0 (c .0)) }
   where
     positive : (p ≡ 0 → ⊥) → 1 ≤ p
     positive n = omega arith
 
+-- every fault of a job is told with the job's number
+pub job-place : (h j r d p : ℕ) (x : Refusal) → jobCheck h j r d p ≡ Refused x → place x ≡ j
+job-place h j r d p x e = by (ltb h d) (leb d r) (eqb p 0) e
+  where
+    told : (y : Refusal) → _≡_ {A = Checked} (Refused y) (Refused x) → place x ≡ place y
+    told y q = sym (ap (λ (c : Checked). getD (checkedValues c) 0 0) q)
+
+    by : (horizon span volume : Bool) →
+        refuseIf horizon (PastHorizon j) (refuseIf span (EmptySpan j) (refuseIf volume (NoVolume j) Passed)) ≡ Refused x → place x ≡ j
+    by true span volume q = told (PastHorizon j) q
+    by false true volume q = told (EmptySpan j) q
+    by false false true q = told (NoVolume j) q
+    by false false false q = refused-not-passed x (sym q)
+
 pub job-passes : (h j r d p : ℕ) → GoodJob h r d p → jobCheck h j r d p ≡ Passed
-job-passes h j r d p g = simp (lt-leb d r (g .span), le-ltb h d (g .within), ne-eqb p 0 (omega arith))
+job-passes h j r d p g = simp (le-ltb h d (g .within), lt-leb d r (g .span), ne-eqb p 0 (omega arith))
 
 -- checks in a row: the first decides where it fails, else the next
 pub then-fails : (a c : Checked) (r : Refusal) → a ≡ Refused r → andThen a c ≡ Refused r
@@ -82,7 +99,7 @@ slots-good h table e = table-good h (length table) (then-passed (tableCheck h (l
 
 -- where the three lists have one length, the count decides, then the jobs
 pub lists-equal : (h : ℕ) (rs ds ps : List ℕ) → length ds ≡ length rs → length ps ≡ length rs →
-    listsCheck h rs ds ps ≡ andThen (countCheck (length rs)) (jobsCheck h rs ds ps)
+    listsCheck jobCheck h rs ds ps ≡ andThen (countCheck (length rs)) (jobsCheck jobCheck h rs ds ps)
 lists-equal h rs ds ps d p = simp (eq-eqb (length ds) (length rs) d, eq-eqb (length ps) (length rs) p)
 
 -- the k jobs from j on
@@ -115,7 +132,7 @@ passed-passes J e =
     let rs = J .releases in
     let ds = J .deadlines in
     let ps = J .volumes in
-    let x₄ : Checked = jobsCheck h rs ds ps in
+    let x₄ : Checked = jobsCheck jobCheck h rs ds ps in
     let x₃ : Checked = andThen (countCheck (length rs)) x₄ in
     let x₂ : Checked = refuseIf (not (eqb (length ps) (length rs))) (Unequal 0) x₃ in
     let x₁ : Checked = refuseIf (not (eqb (length ds) (length rs))) (Unequal 0) x₂ in

@@ -3,7 +3,7 @@ use mathlib.Core.Path.{_≡_}
 use native.Mathlib.Omega.{arith}
 use Rattle.sched.specs.Refusals.{number}
 use Rattle.sched.specs.declared.Refusal.{Refusal}
-use Rattle.sched.specs.declared.Refusal.the-variants.{Truncated, OutOfRange, UnknownBit, Redundant, BadJob, LeftOver, TooShort, Unequal, BadByte, TooOften, OutOfSpan, TooRare}
+use Rattle.sched.specs.declared.Refusal.the-variants.{Truncated, OutOfRange, UnknownBit, Redundant, EmptySpan, LeftOver, TooShort, Unequal, BadByte, TooOften, OutOfSpan, TooRare, PastHorizon, NoVolume}
 
 -- every refusal has a number above 0
 pub refusal-number : (r : Refusal) → number r ≡ 0 → ⊥
@@ -11,7 +11,7 @@ refusal-number (Truncated at) e = omega arith
 refusal-number (OutOfRange at) e = omega arith
 refusal-number (UnknownBit at) e = omega arith
 refusal-number (Redundant at) e = omega arith
-refusal-number (BadJob at) e = omega arith
+refusal-number (EmptySpan at) e = omega arith
 refusal-number (LeftOver at) e = omega arith
 refusal-number (TooShort at) e = omega arith
 refusal-number (Unequal at) e = omega arith
@@ -19,3 +19,5 @@ refusal-number (BadByte at) e = omega arith
 refusal-number (TooOften at) e = omega arith
 refusal-number (OutOfSpan at) e = omega arith
 refusal-number (TooRare at) e = omega arith
+refusal-number (PastHorizon at) e = omega arith
+refusal-number (NoVolume at) e = omega arith

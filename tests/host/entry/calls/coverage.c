@@ -1,16 +1,16 @@
 #include "coverage.h"
 #include <stdio.h>
 
-enum { ANSWERS = 9, ENOUGH = 60000 };
-static const uint32_t number[ANSWERS] = { 0, 11, 12, 13, 14, 15, 16, 17, 18 };
+enum { ANSWERS = 11, ENOUGH = 60000 };
+static const uint32_t number[ANSWERS] = { 0, 11, 12, 13, 14, 15, 16, 17, 18, 25, 26 };
 static const char *const name[SOURCES] = { "random", "mutated", "grammar" };
 
 /* The least of each answer in 1,000 lists of a source: about half of what comes. Each place must come once in ENOUGH lists; shorter runs
  * are held to nothing. */
 static const unsigned least_answers[SOURCES][ANSWERS] = {
-  { 230, 14, 9, 20, 4, 21, 25, 60, 110 },
-  { 137, 35, 22, 23, 11, 90, 32, 50, 90 },
-  { 60, 100, 1, 70, 42, 70, 28, 40, 80 },
+  { 230, 14, 9, 20, 4, 11, 25, 60, 110, 8, 1 },
+  { 137, 35, 22, 23, 11, 40, 32, 50, 90, 50, 2 },
+  { 60, 78, 1, 53, 31, 40, 20, 40, 80, 80, 10 },
 };
 
 static unsigned long answers[SOURCES][ANSWERS], lists[SOURCES], others, met[KINDS][65][16];

@@ -73,9 +73,13 @@ static void worked_cases(void) {
   plans("H 4097", 4097, 1, NO_JOBS, NULL, ANSWER(12, 0, 0, 0, 0));
   plans("(4,4,1)", 8, 1, JOB_LIST(JOB(4, 4, 1)), NULL, ANSWER(15, 0, 0, 0, 0));
   plans("(3,4,1)", 8, 1, JOB_LIST(JOB(3, 4, 1)), TABLE(255, 255, 255, 0, 254, 255, 255, 255), ANSWER(0, 3, 2, 1, 1));
-  plans("(0,4,0)", 8, 1, JOB_LIST(JOB(0, 4, 0)), NULL, ANSWER(15, 0, 0, 0, 0));
+  plans("(0,4,0)", 8, 1, JOB_LIST(JOB(0, 4, 0)), NULL, ANSWER(26, 0, 0, 0, 0));
+  plans("(4,4,0)", 8, 1, JOB_LIST(JOB(4, 4, 0)), NULL, ANSWER(15, 0, 0, 0, 0));
+  plans("(9,9,0)", 8, 1, JOB_LIST(JOB(9, 9, 0)), NULL, ANSWER(25, 0, 0, 0, 0));
+  plans("26 of a lower job", 8, 1, JOB_LIST(JOB(0, 8, 1), JOB(0, 4, 0), JOB(9, 9, 0)), NULL, ANSWER(26, 1, 0, 0, 0));
+  plans("15 of a lower job", 8, 1, JOB_LIST(JOB(8, 8, 1), JOB(0, 9, 1)), NULL, ANSWER(15, 0, 0, 0, 0));
   plans("d = H", 8, 1, JOB_LIST(JOB(0, 8, 1)), TABLE(255, 255, 255, 255, 255, 255, 255, 0), ANSWER(0, 2, 1, 1, 0));
-  plans("d = H + 1", 8, 1, JOB_LIST(JOB(0, 9, 1)), NULL, ANSWER(15, 0, 0, 0, 0));
+  plans("d = H + 1", 8, 1, JOB_LIST(JOB(0, 9, 1)), NULL, ANSWER(25, 0, 0, 0, 0));
 }
 
 /* A list of 453 bytes, in which each field of each job stands. */
@@ -112,11 +116,18 @@ static void refused_bytes(void) {
   memcpy(bytes, (uint8_t[]){ 8, 0, 1, 0, 1, 4, 1, 0 }, 8); refused("14 at 6, volume", 8, 8, 14, 6);
   longest(jobs); bytes[451] = 1; bytes[452] = 0; refused("14 at 451", len, 4096, 14, 451);
 
-  for (unsigned j = 0; j < JOBS; j++) {
-    longest(jobs); jobs[j].r = jobs[j].d; refused("15, r not below d", spell_jobs(4096, 1, jobs, JOBS), 4096, 15, j);
-    longest(jobs); jobs[j].d = 4097; refused("15, d above H", spell_jobs(4096, 1, jobs, JOBS), 4096, 15, j);
-    longest(jobs); jobs[j].p = 0; refused("15, p 0", spell_jobs(4096, 1, jobs, JOBS), 4096, 15, j);
-  }
+  /* 02, card 1: each fault of a job alone, each pair, and all three, at each job */
+  static const struct { const char *what; struct job job; uint32_t number; } faults[] = {
+    { "25", JOB(1, 4097, 2), 25 }, { "15", JOB(200, 200, 2), 15 }, { "26", JOB(1, 300, 0), 26 },
+    { "25 and 15", JOB(4097, 4097, 2), 25 }, { "25 and 26", JOB(1, 4097, 0), 25 }, { "15 and 26", JOB(201, 200, 0), 15 },
+    { "25, 15 and 26", JOB(65535, 65535, 0), 25 },
+  };
+  for (unsigned j = 0; j < JOBS; j++)
+    for (size_t i = 0; i < sizeof faults / sizeof *faults; i++) {
+      longest(jobs);
+      jobs[j] = faults[i].job;
+      refused(faults[i].what, spell_jobs(4096, 1, jobs, JOBS), 4096, faults[i].number, j);
+    }
 }
 
 static void short_buffers(void) {
@@ -168,7 +179,7 @@ static void shared_buffers(unsigned lists) {
     memcpy(before, a.whole, a.size);
     uint32_t got = sleep_plan(a.lent + list_at, len, a.lent + table_at, table_len, a.lent + block_at, block_len);
     calls++;
-    if (got != 0 && (got < 11 || got > 18)) differs(&c, "returned %u", got);
+    if (got != 0 && (got < 11 || got > 18) && got != 25 && got != 26) differs(&c, "returned %u", got);
     for (size_t k = 0; k < a.size; k++) {
       int lent = (k >= table_at && k < table_at + table_len) || (k >= block_at && k < block_at + block_len);
       if (!lent && a.whole[k] != before[k]) { differs(&c, "a byte outside was changed"); break; }

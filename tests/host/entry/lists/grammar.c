@@ -51,16 +51,29 @@ static struct job redundant_job(unsigned h, int column) {
   return job;
 }
 
-static struct job bad_job(unsigned h, int column) {
+/* The deadline is above H; by the column just so or not, with a span that is empty or not, with a volume or not. */
+static struct job late_job(unsigned h, int column) {
   struct job job = good_job(h);
-  switch (column) {
-  case 0: job.r = job.d = ONE_OF(0, 1, h - 1, h, h + 1, 65535, draw(65536)); break;
-  case 1: job.r = ONE_OF(1, 2, h, h + 1, 65535, between(1, 65535)); job.d = ONE_OF(0, job.r - 1, draw(job.r)); break;
-  case 2: job.r = ONE_OF(0, 1, h - 1, h, draw(h)); job.d = h + 1; break;
-  case 3: job.r = ONE_OF(0, 1, h - 1, h, h + 1); job.d = ONE_OF(h + 2, 65535, between(h + 2, 65535)); break;
-  default: job.p = 0;
-  }
-  if (one_in(4)) job.p = 0;
+  job.d = column & 1 ? ONE_OF(h + 2, 65535, between(h + 2, 65535)) : h + 1;
+  job.r = column & 2 ? ONE_OF(job.d, 65535, between(job.d, 65535)) : ONE_OF(0, 1, h - 1, h, draw(h));
+  if (column & 4) job.p = 0;
+  job.map = map_of(h, &job);
+  return job;
+}
+
+/* The deadline is at most H, and the release is it or, by the column, above it; with a volume or not. */
+static struct job empty_job(unsigned h, int column) {
+  struct job job = good_job(h);
+  job.d = ONE_OF(0, 1, h - 1, h, draw(h + 1));
+  job.r = column & 1 ? ONE_OF(job.d + 1, h + 1, 65535, between(job.d + 1, 65535)) : job.d;
+  if (column & 2) job.p = 0;
+  job.map = map_of(h, &job);
+  return job;
+}
+
+static struct job idle_job(unsigned h) {
+  struct job job = good_job(h);
+  job.p = 0;
   job.map = map_of(h, &job);
   return job;
 }
@@ -96,7 +109,9 @@ static size_t damaged_job(struct list *l, struct spot at, uint8_t *bytes) {
   case JOB_CUT: *job = cut_job(l->h, (unsigned)at.column, &kept); break;
   case UNKNOWN_BIT: *job = any_job(l->h); job->map |= (8u | draw(32) << 4) << at.column & 255; break;
   case REDUNDANT: *job = redundant_job(l->h, at.column); break;
-  default: *job = bad_job(l->h, at.column);
+  case PAST_HORIZON: *job = late_job(l->h, at.column); break;
+  case EMPTY_SPAN: *job = empty_job(l->h, at.column); break;
+  default: *job = idle_job(l->h);
   }
   size_t len = spell(l, bytes);
   if (at.kind == JOB_CUT) return before + kept;

@@ -19,9 +19,11 @@ static struct reading read_job(const uint8_t *bytes, size_t len, size_t *at, uns
   for (int f = 0; f < 3; f++) value[f] = map >> f & 1 ? word(bytes + field_at[f]) : absent[f];
   for (unsigned f = 0; f < 3; f++) if (map >> f & 1 && value[f] == absent[f]) return refuse(14, field_at[f], REDUNDANT, number, f);
   unsigned r = value[0], d = value[1], p = value[2];
-  if (r >= d) return refuse(15, number, BAD_JOB, number, r > d);
-  if (d > l->h) return refuse(15, number, BAD_JOB, number, d == l->h + 1 ? 2 : 3);
-  if (p == 0) return refuse(15, number, BAD_JOB, number, 4);
+  /* 02, card 1: "For each job the order is 25, 15, 26" */
+  unsigned empty = r >= d, none = p == 0;
+  if (d > l->h) return refuse(25, number, PAST_HORIZON, number, (d > l->h + 1) + 2 * empty + 4 * none);
+  if (empty) return refuse(15, number, EMPTY_SPAN, number, (r > d) + 2 * none);
+  if (none) return refuse(26, number, NO_VOLUME, number, 0);
   l->job[number] = (struct job){ r, d, p, map };
   *at = start + used;
   return read_well;

@@ -1,4 +1,4 @@
-/* The tests' one reader of list bytes. It follows document 01 word by word. */
+/* The tests' one reader of list bytes. It follows document 01 and the cards of 02 word by word. */
 #ifndef READER_H
 #define READER_H
 #include "list.h"

@@ -1,4 +1,4 @@
--- `entry::read_job` meets its contract: 14 decides, and where it passes 15 does.
+-- `entry::read_job` meets its contract: 14 decides, and where it passes the check of the job does.
 use borrow.Author.Needs.{needs}
 use Rattle.joblist.proofs.Fields.{fields-refused, job-refused, job-read}
 use Rattle.joblist.proofs.entry.read_job.Statement.{statement}

@@ -1,0 +1,75 @@
+// Faulty jobs, read and written: each of the seven at the first, a middle and the last place, and two faulty jobs in one list.
+use super::longest;
+use super::show;
+use test_faults::Job;
+
+// Stores a number's two bytes, low byte first, at an offset; nothing past the end.
+fn put_word(bytes: &mut [u8], at: usize, value: u16) {
+    show::put(bytes, at % 1000, value as usize);
+    show::put(bytes, at % 1000 + 1, (value / 256) as usize);
+}
+
+// Puts a job into the bytes of the longest list, as job j of its 64.
+fn put_job(bytes: &mut [u8], j: usize, job: Job) {
+    let at = 5 + 7 * (j % 64);
+    put_word(bytes, at + 1, job.r);
+    put_word(bytes, at + 3, job.d);
+    put_word(bytes, at + 5, job.p);
+}
+
+// Reads the longest list with two other jobs in it, j and i.
+fn read_with(j: usize, job: Job, i: usize, other: Job) {
+    let mut bytes = longest::LONGEST;
+    put_job(&mut bytes, j, job);
+    put_job(&mut bytes, i, other);
+    super::read(show::part(&bytes, 453));
+}
+
+// Writes 64 jobs (1, 2, 65535), of which j and i are others, to a buffer that is one byte short.
+fn write_with(j: usize, job: Job, i: usize, other: Job) {
+    let mut releases = [1u16; 64];
+    let mut deadlines = [2u16; 64];
+    let mut volumes = [65535u16; 64];
+    let mut out = [9u8; 452];
+    releases[j % 64] = job.r;
+    deadlines[j % 64] = job.d;
+    volumes[j % 64] = job.p;
+    releases[i % 64] = other.r;
+    deadlines[i % 64] = other.d;
+    volumes[i % 64] = other.p;
+    super::write(4096, 0, &releases, &deadlines, &volumes, &mut out);
+}
+
+// Reads and writes lists of which job j is the k-th faulty one.
+fn both(j: usize, k: usize) {
+    let job = test_faults::nth(k);
+    read_with(j, job, j, job);
+    write_with(j, job, j, job);
+}
+
+// The same for all seven.
+fn all(j: usize) {
+    both(j, 0);
+    both(j, 1);
+    both(j, 2);
+    both(j, 3);
+    both(j, 4);
+    both(j, 5);
+    both(j, 6);
+}
+
+// Two faulty jobs: the lower one is told, whatever the two faults are.
+fn two(k: usize, other: usize) {
+    read_with(5, test_faults::nth(k), 40, test_faults::nth(other));
+    write_with(40, test_faults::nth(other), 5, test_faults::nth(k));
+}
+
+// All of it.
+pub fn each() {
+    all(0);
+    all(31);
+    all(63);
+    two(2, 0);
+    two(1, 0);
+    two(2, 1);
+}
