@@ -22,7 +22,8 @@ use Rattle.joblist.specs.Reading.{headerCheck, lentCheck, behindHeader, 
 use Rattle.joblist.specs.Laws.Entry.{entry-passed}
 use Rattle.joblist.specs.Laws.Lists.{field-count}
 
-abbrev IsFault : Checked → Type 0
+-- an answer that refuses a job
+abbrev pub IsFault : Checked → Type 0
 IsFault c = JobFaultNumber (checkedNumber c)
 
 -- The checks of an entry before the job's own give another number
@@ -30,7 +31,7 @@ IsFault c = JobFaultNumber (checkedNumber c)
 eleven : JobFaultNumber 11 → ⊥
 eleven = not-job 11 (inl (omega arith))
 
-other-map : (n at : ℕ) (bs : List ℕ) → IsFault (mapCheck knownMaps n at bs) → ⊥
+pub other-map : (n at : ℕ) (bs : List ℕ) → IsFault (mapCheck knownMaps n at bs) → ⊥
 unfolding mapCheck
 other-map n at bs =
     other-if (eqb (length bs) 0) (Truncated n) (refuseIf (leb knownMaps (entryMap bs)) (UnknownBit at) Passed) eleven
@@ -40,7 +41,10 @@ other-field : (stands : Bool) (absent place at : ℕ) (bs : List ℕ) → IsFaul
 other-field stands absent place at bs =
     other-if (redundant stands absent (drop place bs)) (Redundant (at + place)) Passed (not-job 14 (inl (omega arith))) other-passed
 
-other-redundancy : (h at : ℕ) (bs : List ℕ) → IsFault (redundancyCheck h at bs) → ⊥
+pub other-whole : (n : ℕ) (bs : List ℕ) → IsFault (wholeCheck (entrySize bs) n bs) → ⊥
+other-whole n bs = other-if (ltb (length bs) (entrySize bs)) (Truncated n) Passed eleven other-passed
+
+pub other-redundancy : (h at : ℕ) (bs : List ℕ) → IsFault (redundancyCheck h at bs) → ⊥
 unfolding redundancyCheck
 other-redundancy h at bs =
     let map = entryMap bs in
@@ -62,11 +66,13 @@ entry-own h n j at bs f =
     let fresh = redundancyCheck h at bs in
     let own = faultCheck jobCheck h j bs in
     let a = past-then (mapCheck knownMaps n at bs) (andThen whole (andThen fresh own)) (other-map n at bs) f in
-    let b =
-    past-then whole (andThen fresh own) (other-if (ltb (length bs) (entrySize bs)) (Truncated n) Passed eleven other-passed) (along a f) in
+    let b = past-then whole (andThen fresh own) (other-whole n bs) (along a f) in
     a ∙ b ∙ past-then fresh own (other-redundancy h at bs) (along (a ∙ b) f)
 
 -- The walk: of the k entries from job j on one is refused, entry i of them
+
+pub other-left : (at : ℕ) (bs : List ℕ) → IsFault (refuseIf (not (eqb (length bs) 0)) (LeftOver at) Passed) → ⊥
+other-left at bs = other-if (not (eqb (length bs) 0)) (LeftOver at) Passed (not-job 16 (inr (omega arith, omega arith))) other-passed
 
 record Met (k j h : ℕ) (bs : List ℕ) (c : Checked) : Type 0 where
   i : ℕ
@@ -82,8 +88,7 @@ record Met (k j h : ℕ) (bs : List ℕ) (c : Checked) : Type 0 where
 entries-met : (h n k j at : ℕ) (bs : List ℕ) → IsFault (entriesCheck (entryCheck jobCheck h n) entrySize k j at bs) →
     Met k j h bs (entriesCheck (entryCheck jobCheck h n) entrySize k j at bs)
 unfolding entriesCheck column
-entries-met h n zero j at bs f =
-    absurd (other-if (not (eqb (length bs) 0)) (LeftOver at) Passed (not-job 16 (inr (omega arith, omega arith))) other-passed f)
+entries-met h n zero j at bs f = absurd (other-left at bs f)
 entries-met h n (suc k) j at bs f = go here refl (λ g. entries-met h n k (suc j) (at + entrySize bs) (drop (entrySize bs) bs) g)
   where
     here : Checked
@@ -126,7 +131,7 @@ entries-met h n (suc k) j at bs f = go here refl (λ g. entries-met h n k (suc j
 
 -- The whole input
 
-other-header : (bytes : List ℕ) → IsFault (headerCheck bytes) → ⊥
+pub other-header : (bytes : List ℕ) → IsFault (headerCheck bytes) → ⊥
 other-header bytes =
     let horizon = horizonCheck (headerHorizon bytes) in
     let count = countCheck (headerCount bytes) in
@@ -136,7 +141,7 @@ other-header bytes =
 other-length : (have need : ℕ) → IsFault (lengthCheck have need) → ⊥
 other-length have need = other-if (ltb have need) (TooShort need) Passed (not-job 17 (inr (omega arith, omega arith))) other-passed
 
-other-lent : (n r d p : ℕ) → IsFault (lentCheck n r d p) → ⊥
+pub other-lent : (n r d p : ℕ) → IsFault (lentCheck n r d p) → ⊥
 other-lent n r d p =
     other-then (lengthCheck r n) (andThen (lengthCheck d n) (lengthCheck p n)) (other-length r n)
     (other-then (lengthCheck d n) (lengthCheck p n) (other-length d n) (other-length p n))

@@ -2,21 +2,20 @@
 -- as before the card, for every input.
 use Prim.Native.Nat.{ℕ, zero, suc, _+_}
 use mathlib.Core.Path.{_≡_, refl, sym, subst}
-use mathlib.Core.Bool.{Bool, not}
+use mathlib.Core.Bool.{not}
 use mathlib.Core.List.{List}
 use lib.ListN.{length, drop}
-use lib.Dec.{leb, ltb, eqb}
-use Rattle.sched.specs.Checks.{refuseIf, andThen, horizonCheck, countCheck, lengthCheck, jobCheck}
-use Rattle.sched.specs.Theorems.OnlyNumber.{jobCheckBefore, OnlyNumber, coarse, coarse-number, accepted-same, if-coarse, then-coarse}
-use Rattle.sched.specs.Theorems.OnlyNumber.{horizon-coarse, count-coarse, job-coarse}
-use Rattle.sched.specs.declared.Refusal.the-variants.{Truncated, UnknownBit, Redundant, LeftOver, TooShort}
+use lib.Dec.{eqb}
+use Rattle.sched.specs.Checks.{refuseIf, andThen, jobCheck}
+use Rattle.sched.specs.Theorems.OnlyNumber.{jobCheckBefore, OnlyNumber, coarse, coarse-number, accepted-same, other-same, then-coarse, job-coarse}
+use Rattle.sched.specs.declared.Refusal.the-variants.{LeftOver}
 use Rattle.sched.specs.declared.Checked.{Checked}
 use Rattle.sched.specs.declared.Checked.the-variants.{Passed, Refused as Faulty}
-use Rattle.joblist.specs.Bytes.{headerLength, headerHorizon, headerCount, absentRelease, absentDeadline, absentVolume}
-use Rattle.joblist.specs.Bytes.{hasRelease, hasDeadline, hasVolume, releaseAt, deadlineAt, volumeAt}
-use Rattle.joblist.specs.Entries.{entryMap, entrySize, releaseOf, deadlineOf, volumeOf, knownMaps, mapCheck, wholeCheck, redundant, fieldCheck}
+use Rattle.joblist.specs.Bytes.{headerLength, headerHorizon, headerCount}
+use Rattle.joblist.specs.Entries.{entrySize, releaseOf, deadlineOf, volumeOf, knownMaps, mapCheck, wholeCheck}
 use Rattle.joblist.specs.Entries.{redundancyCheck, faultCheck, entryCheck, entriesCheck}
 use Rattle.joblist.specs.Reading.{headerCheck, lentCheck, behindHeader, inputCheck, readCheck, Reading, readIf, reading, readNumber, readValues}
+use Rattle.joblist.specs.Theorems.FaultyField.{other-map, other-whole, other-redundancy, other-left, other-header, other-lent}
 
 -- the reader before the card, here to be compared with
 abbrev pub readingBefore : List ℕ → List ℕ → List ℕ → List ℕ → Reading
@@ -29,29 +28,7 @@ pub record SameButNumber (before now : Reading) : Type 0 where
   pub deadlines : before .deadlines ≡ now .deadlines
   pub volumes : before .volumes ≡ now .volumes
 
--- The checks of an entry: those before the job's are as they were
-
-map-coarse : (n at : ℕ) (bs : List ℕ) → mapCheck knownMaps n at bs ≡ coarse (mapCheck knownMaps n at bs)
-unfolding mapCheck
-map-coarse n at bs =
-    let known = refuseIf (leb knownMaps (entryMap bs)) (UnknownBit at) Passed in
-    if-coarse (eqb (length bs) 0) (Truncated n) known known refl
-    (if-coarse (leb knownMaps (entryMap bs)) (UnknownBit at) Passed Passed refl refl)
-
-field-coarse : (stands : Bool) (absent place at : ℕ) (bs : List ℕ) →
-    fieldCheck stands absent place at bs ≡ coarse (fieldCheck stands absent place at bs)
-field-coarse stands absent place at bs = if-coarse (redundant stands absent (drop place bs)) (Redundant (at + place)) Passed Passed refl refl
-
-redundancy-coarse : (h at : ℕ) (bs : List ℕ) → redundancyCheck h at bs ≡ coarse (redundancyCheck h at bs)
-unfolding redundancyCheck
-redundancy-coarse h at bs =
-    let map = entryMap bs in
-    let first = fieldCheck (hasRelease map) absentRelease releaseAt at bs in
-    let second = fieldCheck (hasDeadline map) (absentDeadline h) (deadlineAt map) at bs in
-    let third = fieldCheck (hasVolume map) absentVolume (volumeAt map) at bs in
-    then-coarse first (andThen second third) first (andThen second third) (field-coarse (hasRelease map) absentRelease releaseAt at bs)
-    (then-coarse second third second third (field-coarse (hasDeadline map) (absentDeadline h) (deadlineAt map) at bs)
-    (field-coarse (hasVolume map) absentVolume (volumeAt map) at bs))
+-- The checks before the job's own are as they were, since they refuse no job (`FaultyField`)
 
 entry-coarse : (h n j at : ℕ) (bs : List ℕ) → entryCheck jobCheckBefore h n j at bs ≡ coarse (entryCheck jobCheck h n j at bs)
 unfolding entryCheck
@@ -61,15 +38,15 @@ entry-coarse h n j at bs =
     let fresh = redundancyCheck h at bs in
     let before = faultCheck jobCheckBefore h j bs in
     let now = faultCheck jobCheck h j bs in
-    then-coarse map (andThen whole (andThen fresh before)) map (andThen whole (andThen fresh now)) (map-coarse n at bs)
+    then-coarse map (andThen whole (andThen fresh before)) map (andThen whole (andThen fresh now)) (other-same map (other-map n at bs))
     (then-coarse whole (andThen fresh before) whole (andThen fresh now)
-    (if-coarse (ltb (length bs) (entrySize bs)) (Truncated n) Passed Passed refl refl)
-    (then-coarse fresh before fresh now (redundancy-coarse h at bs) (job-coarse h j (releaseOf bs) (deadlineOf h bs) (volumeOf bs))))
+    (other-same whole (other-whole n bs))
+    (then-coarse fresh before fresh now (other-same fresh (other-redundancy h at bs)) (job-coarse h j (releaseOf bs) (deadlineOf h bs) (volumeOf bs))))
 
 entries-coarse : (h n k j at : ℕ) (bs : List ℕ) →
     entriesCheck (entryCheck jobCheckBefore h n) entrySize k j at bs ≡ coarse (entriesCheck (entryCheck jobCheck h n) entrySize k j at bs)
 unfolding entriesCheck
-entries-coarse h n zero j at bs = if-coarse (not (eqb (length bs) 0)) (LeftOver at) Passed Passed refl refl
+entries-coarse h n zero j at bs = other-same (refuseIf (not (eqb (length bs) 0)) (LeftOver at) Passed) (other-left at bs)
 entries-coarse h n (suc k) j at bs =
     let next = at + entrySize bs in
     let rest = drop (entrySize bs) bs in
@@ -79,24 +56,6 @@ entries-coarse h n (suc k) j at bs =
 
 -- The whole input
 
-length-coarse : (have need : ℕ) → lengthCheck have need ≡ coarse (lengthCheck have need)
-length-coarse have need = if-coarse (ltb have need) (TooShort need) Passed Passed refl refl
-
-lent-coarse : (n r d p : ℕ) → lentCheck n r d p ≡ coarse (lentCheck n r d p)
-lent-coarse n r d p =
-    let first = lengthCheck r n in
-    let second = lengthCheck d n in
-    let third = lengthCheck p n in
-    then-coarse first (andThen second third) first (andThen second third) (length-coarse r n)
-    (then-coarse second third second third (length-coarse d n) (length-coarse p n))
-
-header-coarse : (bytes : List ℕ) → headerCheck bytes ≡ coarse (headerCheck bytes)
-header-coarse bytes =
-    let horizon = horizonCheck (headerHorizon bytes) in
-    let count = countCheck (headerCount bytes) in
-    if-coarse (ltb (length bytes) headerLength) (Truncated (length bytes)) (andThen horizon count) (andThen horizon count) refl
-    (then-coarse horizon count horizon count (horizon-coarse (headerHorizon bytes)) (count-coarse (headerCount bytes)))
-
 input-coarse : (bytes : List ℕ) (r d p : ℕ) → inputCheck jobCheckBefore bytes r d p ≡ coarse (readCheck bytes r d p)
 input-coarse bytes r d p =
     let h = headerHorizon bytes in
@@ -105,8 +64,8 @@ input-coarse bytes r d p =
     let lent = lentCheck count r d p in
     let before = behindHeader jobCheckBefore h count bytes in
     let now = behindHeader jobCheck h count bytes in
-    then-coarse header (andThen lent before) header (andThen lent now) (header-coarse bytes)
-    (then-coarse lent before lent now (lent-coarse count r d p)
+    then-coarse header (andThen lent before) header (andThen lent now) (other-same header (other-header bytes))
+    (then-coarse lent before lent now (other-same lent (other-lent count r d p))
     (entries-coarse h (length bytes) count 0 headerLength (drop headerLength bytes)))
 
 -- The theorem, for every input and all lent lists

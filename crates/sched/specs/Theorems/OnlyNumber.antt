@@ -12,9 +12,9 @@ use lib.Dec.{leb, ltb, eqb}
 use Rattle.sched.specs.Refusals.{number, place}
 use Rattle.sched.specs.Checks.{JobCheck, refuseIf, andThen, horizonCheck, countCheck, jobCheck, checkFrom, jobsCheck, listsCheck, listCheckBy}
 use Rattle.sched.specs.Checks.{listCheck, checkedNumber, checkedValues}
-use Rattle.sched.specs.Theorems.FaultyField.{JobFaultNumber}
+use Rattle.sched.specs.Theorems.FaultyField.{JobFaultNumber, other-horizon, other-count}
 use Rattle.sched.specs.declared.Refusal.{Refusal}
-use Rattle.sched.specs.declared.Refusal.the-variants.{OutOfRange, EmptySpan, Unequal, PastHorizon, NoVolume}
+use Rattle.sched.specs.declared.Refusal.the-variants.{EmptySpan, Unequal, PastHorizon, NoVolume}
 use Rattle.sched.specs.declared.Checked.{Checked}
 use Rattle.sched.specs.declared.Checked.the-variants.{Passed, Refused}
 
@@ -74,7 +74,7 @@ coarse-number Passed = accepted-same []
 coarse-number (Refused r) = told-number r (eqb (number r) 25) (eqb (number r) 26) refl refl
 
 -- checks in a row, before and now; a refusal that is told by the same number is the same
-pub if-coarse : (b : Bool) (r : Refusal) (before now : Checked) → r ≡ told15 r → before ≡ coarse now → refuseIf b r before ≡ coarse (refuseIf b r now)
+if-coarse : (b : Bool) (r : Refusal) (before now : Checked) → r ≡ told15 r → before ≡ coarse now → refuseIf b r before ≡ coarse (refuseIf b r now)
 if-coarse true r before now same e = ap (λ (x : Refusal). Refused x) same
 if-coarse false r before now same e = e
 
@@ -82,13 +82,15 @@ pub then-coarse : (a b a′ b′ : Checked) → a ≡ coarse a′ → b ≡ coar
 then-coarse a b Passed b′ e f = ap (λ (x : Checked). andThen x b) e ∙ f
 then-coarse a b (Refused r) b′ e f = ap (λ (x : Checked). andThen x b) e
 
-pub horizon-coarse : (h : ℕ) → horizonCheck h ≡ coarse (horizonCheck h)
-horizon-coarse h =
-    let high = refuseIf (ltb 4096 h) (OutOfRange 0) Passed in
-    if-coarse (eqb h 0) (OutOfRange 0) high high refl (if-coarse (ltb 4096 h) (OutOfRange 0) Passed Passed refl refl)
-
-pub count-coarse : (n : ℕ) → countCheck n ≡ coarse (countCheck n)
-count-coarse n = if-coarse (ltb 64 n) (OutOfRange 4) Passed Passed refl refl
+-- a check that refuses no job is as it was
+pub other-same : (c : Checked) → (JobFaultNumber (checkedNumber c) → ⊥) → c ≡ coarse c
+other-same Passed other = refl
+other-same (Refused r) other = ap (λ (x : Refusal). Refused x) (by (eqb (number r) 25) (eqb (number r) 26) refl refl)
+  where
+    by : (a b : Bool) → eqb (number r) 25 ≡ a → eqb (number r) 26 ≡ b → r ≡ toldIf (a || b) r
+    by true b x y = absurd (other (inl (eqb-true (number r) 25 x)))
+    by false true x y = absurd (other (inr (inr (eqb-true (number r) 26 y))))
+    by false false x y = refl
 
 -- the check of a job, by whether each test holds
 pub job-coarse : (h j r d p : ℕ) → jobCheckBefore h j r d p ≡ coarse (jobCheck h j r d p)
@@ -122,10 +124,10 @@ list-coarse h rs ds ps =
     let now₁ = andThen count (jobsCheck jobCheck h rs ds ps) in
     let before₂ = refuseIf (not (eqb (length ps) n)) (Unequal 0) before₁ in
     let now₂ = refuseIf (not (eqb (length ps) n)) (Unequal 0) now₁ in
-    then-coarse horizon (listsCheck jobCheckBefore h rs ds ps) horizon (listsCheck jobCheck h rs ds ps) (horizon-coarse h)
+    then-coarse horizon (listsCheck jobCheckBefore h rs ds ps) horizon (listsCheck jobCheck h rs ds ps) (other-same horizon (other-horizon h))
     (if-coarse (not (eqb (length ds) n)) (Unequal 0) before₂ now₂ refl
     (if-coarse (not (eqb (length ps) n)) (Unequal 0) before₁ now₁ refl
-    (then-coarse count (jobsCheck jobCheckBefore h rs ds ps) count (jobsCheck jobCheck h rs ds ps) (count-coarse n) (walk-coarse n 0 h rs ds ps))))
+    (then-coarse count (jobsCheck jobCheckBefore h rs ds ps) count (jobsCheck jobCheck h rs ds ps) (other-same count (other-count n)) (walk-coarse n 0 h rs ds ps))))
 
 -- The theorem, for every list: the answers of the list checks before and now.
 pub list-only-number : (h : ℕ) (rs ds ps : List ℕ) →
