@@ -76,8 +76,10 @@ static void tell_found(const struct source *s) {
 /* The line that the place stands for: of the slots, of the first job that is too many, of the job that is named. */
 static unsigned long line_of(const struct source *s) {
   uint32_t place = s->plan.numbers[PLACE];
-  if (s->plan.returned != SLEEP_PLAN_OUT_OF_RANGE) return s->list.jobs[place].origin;
-  return place ? s->list.jobs[SLEEP_PLAN_JOBS_MAX].origin : s->list.slots_line;
+  switch (s->plan.returned) {
+  case SLEEP_PLAN_PAST_HORIZON: case SLEEP_PLAN_EMPTY_SPAN: case SLEEP_PLAN_NO_VOLUME: return s->list.jobs[place].origin;
+  default: return place ? s->list.jobs[SLEEP_PLAN_JOBS_MAX].origin : s->list.slots_line;
+  }
 }
 
 void tell_refusal(const struct source *s) {

@@ -209,7 +209,7 @@ fn faulty(k: usize, j: usize) {
 }
 
 // The k-th faulty job at the first, a middle and the last place.
-fn placed(k: usize) {
+fn at_three_places(k: usize) {
     faulty(k, 0);
     faulty(k, 31);
     faulty(k, 63);
@@ -217,13 +217,13 @@ fn placed(k: usize) {
 
 // All seven faulty jobs.
 pub fn faults() {
-    placed(0);
-    placed(1);
-    placed(2);
-    placed(3);
-    placed(4);
-    placed(5);
-    placed(6);
+    at_three_places(0);
+    at_three_places(1);
+    at_three_places(2);
+    at_three_places(3);
+    at_three_places(4);
+    at_three_places(5);
+    at_three_places(6);
 }
 
 // Lists with several faults, of which the first in the order is told, printed so.
