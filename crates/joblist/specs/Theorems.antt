@@ -30,6 +30,7 @@ pub mod Handed
 pub mod Longest
 pub mod FaultyField
 pub mod OnlyNumber
+pub mod TellsJob
 
 -- the reading that hands over just the list J, past which the lent lists keep their entries
 abbrev pub handsOver : Jobs → List ℕ → List ℕ → List ℕ → Reading

@@ -3,22 +3,19 @@ use super::longest;
 use super::show;
 use test_faults::Job;
 
-// Stores a number's two bytes, low byte first, at an offset; nothing past the end.
-fn put_word(bytes: &mut [u8], at: usize, value: u16) {
-    show::put(bytes, at % 1000, value as usize);
-    show::put(bytes, at % 1000 + 1, (value / 256) as usize);
-}
-
-// Puts a job into the bytes of the longest list, as job j of its 64.
+// Puts a job into the bytes of the longest list, as job j of its 64; each field stands there, low byte first.
 fn put_job(bytes: &mut [u8], j: usize, job: Job) {
     let at = 5 + 7 * (j % 64);
-    put_word(bytes, at + 1, job.r);
-    put_word(bytes, at + 3, job.d);
-    put_word(bytes, at + 5, job.p);
+    show::put(bytes, at + 1, job.r as usize);
+    show::put(bytes, at + 2, (job.r / 256) as usize);
+    show::put(bytes, at + 3, job.d as usize);
+    show::put(bytes, at + 4, (job.d / 256) as usize);
+    show::put(bytes, at + 5, job.p as usize);
+    show::put(bytes, at + 6, (job.p / 256) as usize);
 }
 
 // Reads the longest list with two other jobs in it, j and i.
-fn read_with(j: usize, job: Job, i: usize, other: Job) {
+fn read_others(j: usize, job: Job, i: usize, other: Job) {
     let mut bytes = longest::LONGEST;
     put_job(&mut bytes, j, job);
     put_job(&mut bytes, i, other);
@@ -26,7 +23,7 @@ fn read_with(j: usize, job: Job, i: usize, other: Job) {
 }
 
 // Writes 64 jobs (1, 2, 65535), of which j and i are others, to a buffer that is one byte short.
-fn write_with(j: usize, job: Job, i: usize, other: Job) {
+fn write_others(j: usize, job: Job, i: usize, other: Job) {
     let mut releases = [1u16; 64];
     let mut deadlines = [2u16; 64];
     let mut volumes = [65535u16; 64];
@@ -43,8 +40,8 @@ fn write_with(j: usize, job: Job, i: usize, other: Job) {
 // Reads and writes lists of which job j is the k-th faulty one.
 fn both(j: usize, k: usize) {
     let job = test_faults::nth(k);
-    read_with(j, job, j, job);
-    write_with(j, job, j, job);
+    read_others(j, job, j, job);
+    write_others(j, job, j, job);
 }
 
 // The same for all seven.
@@ -60,8 +57,8 @@ fn all(j: usize) {
 
 // Two faulty jobs: the lower one is told, whatever the two faults are.
 fn two(k: usize, other: usize) {
-    read_with(5, test_faults::nth(k), 40, test_faults::nth(other));
-    write_with(40, test_faults::nth(other), 5, test_faults::nth(k));
+    read_others(5, test_faults::nth(k), 40, test_faults::nth(other));
+    write_others(40, test_faults::nth(other), 5, test_faults::nth(k));
 }
 
 // All of it.

@@ -1,5 +1,5 @@
-// Job lists read and written: the list worked out in hex, each refusal at its first and its last place, the longest list, and the
-// list in hex with one byte changed. `stdout` was worked out apart from this program.
+// Job lists read and written: the list worked out in hex, each refusal at its first and its last place, the longest list, the list in hex
+// with one byte changed, and faulty jobs. `stdout` was worked out apart from this program.
 ghost use mathlib.Core.Path.{_≡_};
 ghost use Prim.Native.Nat.{_≤_};
 ghost use lib.ListN.{take};

@@ -9,6 +9,7 @@ use lib.Dec.{leb, ltb, eqb}
 use Rattle.sched.specs.Bounded.Laws.{by-bool, true-not-false, or-false}
 use Rattle.sched.specs.Checks.{refuseIf}
 use Rattle.sched.specs.Checks.Laws.{refuse-passed}
+use Rattle.sched.specs.Theorems.RefusesJob.{RefusesJob, not-job, other-if, other-passed}
 use Rattle.sched.specs.declared.Checked.the-variants.{Passed, Refused}
 use Rattle.sched.specs.declared.Refusal.the-variants.{BadByte, TooOften, OutOfSpan}
 use Rattle.judge.specs.Faults.{slotFault}
@@ -36,6 +37,16 @@ module _ (n r d t byte : ℕ) (spent : Bool) where
 
   pub own-passes : byte < n → spent ≡ false → r ≤ t → t < d → Passed ≡ slotFault n r d t byte spent
   own-passes l s e f = simp (lt-leb n byte l, lt-ltb byte n l, s, le-ltb t r e, lt-leb d t f)
+
+  -- 21, 22 and 23 are about a slot, not a job
+  pub slot-refuses-no-job : RefusesJob (slotFault n r d t byte spent) → ⊥
+  slot-refuses-no-job =
+      let span : Bool = ltb byte n && (ltb t r || leb d t) in
+      let last = refuseIf span (OutOfSpan t) Passed in
+      let often = refuseIf (ltb byte n && spent) (TooOften t) last in
+      other-if (leb n byte && not (eqb byte 254) && not (eqb byte 255)) (BadByte t) often (not-job 21 (inr (omega arith, omega arith)))
+      (other-if (ltb byte n && spent) (TooOften t) last (not-job 22 (inr (omega arith, omega arith)))
+      (other-if span (OutOfSpan t) Passed (not-job 23 (inr (omega arith, omega arith))) other-passed))
 
 and-false : (a b : Bool) → a && b ≡ false → a ≡ true → b ≡ false
 and-false true b e t = e

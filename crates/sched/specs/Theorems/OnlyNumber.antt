@@ -12,7 +12,7 @@ use lib.Dec.{leb, ltb, eqb}
 use Rattle.sched.specs.Refusals.{number, place}
 use Rattle.sched.specs.Checks.{JobCheck, refuseIf, andThen, horizonCheck, countCheck, jobCheck, checkFrom, jobsCheck, listsCheck, listCheckBy}
 use Rattle.sched.specs.Checks.{listCheck, checkedNumber, checkedValues}
-use Rattle.sched.specs.Theorems.FaultyField.{JobFaultNumber, other-horizon, other-count}
+use Rattle.sched.specs.Theorems.RefusesJob.{JobFaultNumber, other-horizon, other-count}
 use Rattle.sched.specs.declared.Refusal.{Refusal}
 use Rattle.sched.specs.declared.Refusal.the-variants.{EmptySpan, Unequal, PastHorizon, NoVolume}
 use Rattle.sched.specs.declared.Checked.{Checked}

@@ -52,7 +52,7 @@ static struct job redundant_job(unsigned h, int column) {
 }
 
 /* The deadline is above H; by the column just so or not, with a span that is empty or not, with a volume or not. */
-static struct job late_job(unsigned h, int column) {
+static struct job past_horizon_job(unsigned h, int column) {
   struct job job = good_job(h);
   job.d = column & 1 ? ONE_OF(h + 2, 65535, between(h + 2, 65535)) : h + 1;
   job.r = column & 2 ? ONE_OF(job.d, 65535, between(job.d, 65535)) : ONE_OF(0, 1, h - 1, h, draw(h));
@@ -62,7 +62,7 @@ static struct job late_job(unsigned h, int column) {
 }
 
 /* The deadline is at most H, and the release is it or, by the column, above it; with a volume or not. */
-static struct job empty_job(unsigned h, int column) {
+static struct job empty_span_job(unsigned h, int column) {
   struct job job = good_job(h);
   job.d = ONE_OF(0, 1, h - 1, h, draw(h + 1));
   job.r = column & 1 ? ONE_OF(job.d + 1, h + 1, 65535, between(job.d + 1, 65535)) : job.d;
@@ -71,7 +71,7 @@ static struct job empty_job(unsigned h, int column) {
   return job;
 }
 
-static struct job idle_job(unsigned h) {
+static struct job no_volume_job(unsigned h) {
   struct job job = good_job(h);
   job.p = 0;
   job.map = map_of(h, &job);
@@ -109,9 +109,9 @@ static size_t damaged_job(struct list *l, struct spot at, uint8_t *bytes) {
   case JOB_CUT: *job = cut_job(l->h, (unsigned)at.column, &kept); break;
   case UNKNOWN_BIT: *job = any_job(l->h); job->map |= (8u | draw(32) << 4) << at.column & 255; break;
   case REDUNDANT: *job = redundant_job(l->h, at.column); break;
-  case PAST_HORIZON: *job = late_job(l->h, at.column); break;
-  case EMPTY_SPAN: *job = empty_job(l->h, at.column); break;
-  default: *job = idle_job(l->h);
+  case PAST_HORIZON: *job = past_horizon_job(l->h, at.column); break;
+  case EMPTY_SPAN: *job = empty_span_job(l->h, at.column); break;
+  default: *job = no_volume_job(l->h);
   }
   size_t len = spell(l, bytes);
   if (at.kind == JOB_CUT) return before + kept;

@@ -1,0 +1,2 @@
+-- Which faults the jobs of the test programs have.
+pub mod Faults
