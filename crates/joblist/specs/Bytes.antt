@@ -1,5 +1,5 @@
 -- 01, "Job list bytes": the header, map bytes and the fields behind them, and the one spelling of a list.
-use Prim.Native.Nat.{ℕ, _+_, _*_, _/_, _%_, _<_}
+use Prim.Native.Nat.{ℕ, _+_, _*_, _/_, _%_}
 use mathlib.Core.Bool.{Bool, true, false, not}
 use mathlib.Core.List.{List, [], _∷_, _++_}
 use lib.ListN.{getD, drop}
@@ -7,10 +7,6 @@ use lib.Dec.{eqb}
 use Rattle.sched.specs.Bits.{bit}
 use Rattle.sched.specs.Jobs.{Jobs, count}
 use Rattle.sched.specs.TwoBytes.{twoBytes, word}
-
--- a list of bytes: each entry is below 256
-abbrev pub AreBytes : List ℕ → Type 0
-AreBytes bs = (i : ℕ) → getD bs i 0 < 256
 
 -- The header: "H, then q, two bytes each, low byte first, then the number of jobs"
 abbrev pub headerLength : ℕ

@@ -10,12 +10,13 @@ use lib.Seq.{take-at}
 use Rattle.sched.specs.Jobs.{Jobs, jobsOf, count}
 use Rattle.sched.specs.Checks.{Passes, lengthCheck, checkOf}
 use Rattle.sched.specs.Checks.Laws.{then-passes, length-passes, passes-passed}
+use Rattle.sched.specs.TwoBytes.{AreBytes}
 use Rattle.sched.specs.declared.Checked.{Checked}
 use Rattle.sched.specs.declared.Checked.the-variants.{Passed, Refused as Faulty}
 use Rattle.sched.specs.declared.Refusal.{Refusal}
 use Rattle.sched.specs.Refusals.{place}
 use Rattle.sched.specs.Refusals.Laws.{refusal-number}
-use Rattle.joblist.specs.Bytes.{AreBytes, headerCount, spelling}
+use Rattle.joblist.specs.Bytes.{headerCount, spelling}
 use Rattle.joblist.specs.Entries.{releaseOf}
 use Rattle.joblist.specs.Reading.{LentRoom, readCheck, listOf, Reading, reading, readNumber}
 use Rattle.joblist.specs.Writing.{Writing, spellCheck, writtenIf, writing}

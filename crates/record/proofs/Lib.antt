@@ -1,4 +1,10 @@
 pub mod Bits
 pub mod Fill
+pub mod MapRead
+pub mod Spreading
+pub mod Checking
+pub mod Opened
+pub mod ReadAnswers
+pub mod FindAnswers
 pub mod Parts
 pub mod Answers

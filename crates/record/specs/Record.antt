@@ -32,6 +32,10 @@ mapFrom (suc k) m S = bits 8 (8 * m) S ∷ mapFrom k (suc m) S
 abbrev pub mapLength : ℕ → ℕ
 mapLength h = (h + 7) / 8
 
+-- where the slot bytes begin: "directly behind the map", which has two bytes before it
+abbrev pub behindMap : ℕ → ℕ
+behindMap h = 2 + mapLength h
+
 -- "a map of H bits"
 abbrev pub mapOf : List Bool → List ℕ
 mapOf S = mapFrom (mapLength (length S)) 0 S
@@ -69,7 +73,7 @@ writeAnswer h slots (Faulty r) = Refused r
 abbrev pub stored : List ℕ → List ℕ → List ℕ
 stored bytes out = bytes ++ drop (length bytes) out
 
--- the lent output afterwards: "Bytes past the record keep their values", and a refusal changes none
+-- a lent buffer afterwards: "Bytes past the record keep their values", and a refusal changes none; so too for the table that a reader fills
 abbrev pub outAfter : List ℕ → List ℕ → Checked → List ℕ
 outAfter bytes out Passed = stored bytes out
 outAfter bytes out (Faulty r) = out
@@ -95,7 +99,7 @@ pub record Writes (h : ℕ) (table out : List ℕ) (answer : RecordWritten) (aft
 -- the output holds the record, whose slot bytes begin at `behind`
 pub record RecordFits (h : ℕ) (slots : List ℕ) (behind : ℕ) (out : List ℕ) : Type 0 where
   pub few : length slots ≤ 4096
-  pub start : behind ≡ 2 + mapLength (length slots)
+  pub start : behind ≡ behindMap (length slots)
   pub room : length (recordOf h slots) ≤ length out
 
 pub record WritesSlots (h : ℕ) (slots out : List ℕ) (answer : RecordWritten) (after : List ℕ) : Type 0 where

@@ -15,6 +15,9 @@ use Rattle.sched.specs.Bounded.Laws.{true-not-false}
 use Rattle.sched.specs.Slots.{awake, awakeOf}
 use Rattle.record.specs.Record.{bits, mapFrom, mapLength, mapOf, slotBytes, recordOf, recordBytes}
 use Rattle.record.specs.Record.Laws.{slot-awake, slot-asleep, length-map-of}
+pub mod RoundTrip
+pub mod Parts
+pub mod FirstBad
 
 -- the map determines which slots are awake
 

@@ -1,4 +1,4 @@
-// Plan record bytes: the writer.
+// Plan record bytes: the writer, the reader, and the part of a record that holds one run.
 ghost use mathlib.Core.Path.{_≡_};
 ghost use mathlib.Core.List.{map};
 ghost use Prim.Native.Nat.{_+_, _≤_};
@@ -8,10 +8,17 @@ ghost use Rattle.sched.specs.Bits.{bit};
 ghost use Rattle.sched.specs.Bounded.{total};
 ghost use Rattle.sched.specs.Slots.{awake, awakeOf};
 ghost use Rattle.sched.specs.TwoBytes.{twoBytes};
-ghost use Rattle.record.specs.Record.{bits, mapLength, mapOf, slotBytes, frontOf, recordOf, stored, RecordFits, WritesSlots, Writes};
+ghost use Rattle.sched.specs.declared.Checked.the-variants.{Passed};
+ghost use Rattle.record.specs.Record.{bits, mapLength, behindMap, mapOf, slotBytes, frontOf, recordOf, stored, RecordFits, WritesSlots, Writes};
+ghost use Rattle.record.specs.Reading.{recordCheck, Reads};
+ghost use Rattle.record.specs.OneRun.{runPart, Finds};
 use sched::ASLEEP;
 use sched::Checked;
 use sched::Refusal;
+
+mod map; // map.rt: the bits of a map that is read
+mod reader; // reader.rt: the checks of a record, and its table
+mod runs; // runs.rt: the runs of a map
 
 // The length of a record, and the awake slots, which are the slot bytes in it.
 pub struct RecordSize {
@@ -21,6 +28,24 @@ pub struct RecordSize {
 
 pub enum RecordWritten {
     Written(RecordSize),
+    Refused(Refusal),
+}
+
+pub enum RecordRead {
+    // The horizon.
+    Read(u16),
+    Refused(Refusal),
+}
+
+// A run's first slot, and where its slot bytes stand in the record: their offset and how many they are.
+pub struct RunPart {
+    pub first: usize,
+    pub offset: usize,
+    pub len: usize,
+}
+
+pub enum RunFound {
+    Found(RunPart),
     Refused(Refusal),
 }
 
@@ -108,7 +133,7 @@ fn put_horizon(h: u16, out: &mut [u8])
 
 // The horizon and the map.
 fn fill_front(h: u16, slots: &[u8], out: &mut [u8])
-    requires { ⌜ (length (now slots) ≤ 4096) × (2 + mapLength (length (now slots)) ≤ length (now out)) ⌝ }
+    requires { ⌜ (length (now slots) ≤ 4096) × (behindMap (length (now slots)) ≤ length (now out)) ⌝ }
     ensures { λ _. ⌜ now (out .exit) ≡ stored (frontOf h (now (slots .entry))) (now (out .entry)) ⌝ }
 {
     put_horizon(h, out);
@@ -149,5 +174,60 @@ pub fn write(h: u16, table: &[u8], out: &mut [u8]) -> RecordWritten
     match sched::check_slots(h, table) {
         Checked::Passed => write_slots(h, &table[..end], out),
         Checked::Refused(r) => RecordWritten::Refused(r),
+    }
+}
+
+// The horizon of a record, and its table in the first bytes of the lent one; or the first fault.
+pub fn read(bytes: &[u8], table: &mut [u8]) -> RecordRead
+    ensures { λ r. ⌜ Reads (now (bytes .entry)) (now (table .entry)) r (now (table .exit)) ⌝ }
+{
+    match reader::check(bytes) {
+        Checked::Passed => read_table(bytes, table),
+        Checked::Refused(r) => RecordRead::Refused(r),
+    }
+}
+
+// The same of a record that passes the checks.
+fn read_table(bytes: &[u8], table: &mut [u8]) -> RecordRead
+    requires { ⌜ recordCheck (now bytes) ≡ Passed ⌝ }
+    ensures { λ r. ⌜ Reads (now (bytes .entry)) (now (table .entry)) r (now (table .exit)) ⌝ }
+{
+    let h = reader::horizon(bytes);
+    let end = h as usize;
+    match sched::check_length(table.len(), end) {
+        Checked::Passed => {
+            let behind = reader::behind_map(h);
+            reader::fill(&bytes[2..behind], &bytes[behind..], &mut table[..end]);
+            RecordRead::Read(h)
+        }
+        Checked::Refused(r) => RecordRead::Refused(r),
+    }
+}
+
+// The first slot of run k and where its slot bytes stand, or the first fault.
+pub fn find_run(bytes: &[u8], k: usize) -> RunFound
+    ensures { λ r. ⌜ Finds (now (bytes .entry)) k r ⌝ }
+{
+    match reader::check(bytes) {
+        Checked::Passed => {
+            let h = reader::horizon(bytes);
+            let behind = reader::behind_map(h);
+            runs::find(&bytes[2..behind], h as usize, behind, k)
+        }
+        Checked::Refused(r) => RunFound::Refused(r),
+    }
+}
+
+// The slot bytes of run k, as that part of the record; none where `find_run` refuses.
+pub fn run_bytes(bytes: &[u8], k: usize) -> &[u8]
+    ensures { λ r. ⌜ now r ≡ runPart (now (bytes .entry)) k ⌝ }
+{
+    match find_run(bytes, k) {
+        RunFound::Found(part) => {
+            let from = part.offset;
+            let to = from + part.len;
+            &bytes[from..to]
+        }
+        RunFound::Refused(_) => &bytes[..0],
     }
 }

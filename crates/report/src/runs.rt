@@ -4,7 +4,7 @@ ghost use mathlib.Core.Bool.{not};
 ghost use Prim.Native.Nat.{_+_, _≤_};
 ghost use lib.ListN.{length};
 ghost use lib.Dec.{eqb};
-ghost use Rattle.sched.specs.Slots.{asleep};
+ghost use Rattle.sched.specs.Slots.{asleep, awakeOf};
 ghost use Rattle.sched.specs.Runs.{StretchEnd};
 ghost use Rattle.sched.specs.Buffers.{PutAt};
 ghost use Rattle.report.specs.Report.{runLine, runLines};
@@ -19,7 +19,7 @@ fn is_awake(byte: u8) -> bool
 // Where the awake slots from a slot on end, or the sleeping ones.
 fn end(table: &[u8], from: usize, awake: bool) -> usize
     requires { ⌜ from ≤ length (now table) ⌝ }
-    ensures { λ r. ⌜ StretchEnd (now (table .entry)) from awake r ⌝ }
+    ensures { λ r. ⌜ StretchEnd (awakeOf (now (table .entry))) (length (now (table .entry))) from awake r ⌝ }
 {
     let mut t = from;
     while t < table.len() {

@@ -1,36 +1,23 @@
--- The pass that looks for a byte that means nothing: a job number, a mark, a fault, and the end.
-use Prim.Native.Nat.{ℕ, suc, _+_, _-_, _≤_, _<_}
-use mathlib.Core.Path.{_≡_, sym, _∙_}
-use mathlib.Core.Bool.{_&&_}
+-- The pass that looks for a byte that means nothing: a job number, a mark, and a fault.
+use Prim.Native.Nat.{ℕ, _-_, _≤_, _<_}
+use mathlib.Core.Path.{_≡_}
 use mathlib.Core.List.{List}
 use native.Mathlib.Nat.{sub-zero}
-use native.Mathlib.Numerals.{add-one}
-use native.Mathlib.Omega.{arith}
 use borrow.Author.Tests.{le-leb, lt-leb}
-use lib.ListN.{getD}
-use lib.Dec.{leb}
 use Rattle.sched.specs.declared.Checked.{Checked}
 use Rattle.sched.specs.declared.Checked.the-variants.{Passed, Refused}
 use Rattle.sched.specs.declared.Refusal.the-variants.{BadByte}
-use Rattle.sched.specs.Checks.{refuseIf, bytesFrom}
+use Rattle.sched.specs.Checks.{byteCheck, bytesFrom}
 
-module _ (table : List ℕ) (all : Checked) (n t : ℕ) (e : all ≡ bytesFrom (n - t) t table) where
-  bytes-turn : t < n → bytesFrom (n - t) t table ≡ refuseIf (leb 64 (getD table t 0) && leb (getD table t 0) 253) (BadByte t) (bytesFrom (n - (t + 1)) (t + 1) table)
-  unfolding bytesFrom
-  bytes-turn l = let q : n - t ≡ suc (n - (t + 1)) = omega arith in rw (q, ← add-one t)
+module _ (t byte : ℕ) where
+  pub is-job : byte < 64 → byteCheck t byte ≡ Passed
+  is-job b = simp (lt-leb 64 byte b)
 
-  pub bytes-job : t < n → getD table t 0 < 64 → all ≡ bytesFrom (n - (t + 1)) (t + 1) table
-  bytes-job l b = e ∙ bytes-turn l ∙ simp (lt-leb 64 (getD table t 0) b)
+  pub is-mark : 64 ≤ byte → 253 < byte → byteCheck t byte ≡ Passed
+  is-mark b c = simp (le-leb 64 byte b, lt-leb byte 253 c)
 
-  pub bytes-mark : t < n → 64 ≤ getD table t 0 → 253 < getD table t 0 → all ≡ bytesFrom (n - (t + 1)) (t + 1) table
-  bytes-mark l b c = e ∙ bytes-turn l ∙ simp (le-leb 64 (getD table t 0) b, lt-leb (getD table t 0) 253 c)
-
-  pub bytes-stop : t < n → 64 ≤ getD table t 0 → getD table t 0 ≤ 253 → Refused (BadByte t) ≡ all
-  bytes-stop l b c = sym (e ∙ bytes-turn l ∙ simp (le-leb 64 (getD table t 0) b, le-leb (getD table t 0) 253 c))
-
-  pub bytes-end : n ≤ t → Passed ≡ all
-  unfolding bytesFrom
-  bytes-end l = let z : n - t ≡ 0 = omega arith in sym (rw z at e)
+  pub is-nothing : 64 ≤ byte → byte ≤ 253 → byteCheck t byte ≡ Refused (BadByte t)
+  is-nothing b c = simp (le-leb 64 byte b, le-leb byte 253 c)
 
 -- from slot 0 on
 pub bytes-whole : (table : List ℕ) (h : ℕ) (all : Checked) → all ≡ bytesFrom (h - 0) 0 table → all ≡ bytesFrom h 0 table

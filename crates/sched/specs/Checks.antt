@@ -14,6 +14,7 @@ use Rattle.sched.specs.declared.Refusal.the-variants.{OutOfRange, EmptyS
 use Rattle.sched.specs.declared.Checked.{Checked}
 use Rattle.sched.specs.declared.Checked.the-variants.{Passed, Refused}
 pub mod Laws
+pub mod Bytes
 
 -- "each job has r < d, d ≤ H and p of at least 1"
 pub record GoodJob (h r d p : ℕ) : Type 0 where
@@ -52,12 +53,22 @@ lengthCheck have need = refuseIf (ltb have need) (TooShort need) Passed
 abbrev pub tableCheck : ℕ → ℕ → Checked
 tableCheck h have = andThen (horizonCheck h) (lengthCheck have h)
 
--- 21, "here only 64 to 253", for the k slots from slot t on: a byte that means nothing in any table
-unfoldable pub bytesFrom : ℕ → ℕ → List ℕ → Checked
-bytesFrom zero t table = Passed
-bytesFrom (suc k) t table =
-    let byte = getD table t 0 in
-    refuseIf (leb 64 byte && leb byte 253) (BadByte t) (bytesFrom k (suc t) table)
+-- a check of a byte, from its place and its value
+abbrev pub ByteCheck : Type 0
+ByteCheck = ℕ → ℕ → Checked
+
+-- the k bytes from place t on, each by the same check
+unfoldable pub bytesBy : ByteCheck → ℕ → ℕ → List ℕ → Checked
+bytesBy check zero t bytes = Passed
+bytesBy check (suc k) t bytes = andThen (check t (getD bytes t 0)) (bytesBy check k (suc t) bytes)
+
+-- 21, "here only 64 to 253": a byte that means nothing in any table
+abbrev pub byteCheck : ByteCheck
+byteCheck t byte = refuseIf (leb 64 byte && leb byte 253) (BadByte t) Passed
+
+-- 21 for the k slots from slot t on
+abbrev pub bytesFrom : ℕ → ℕ → List ℕ → Checked
+bytesFrom = bytesBy byteCheck
 
 -- 12, 17, then 21 for the first H slots of such a table
 abbrev pub slotsCheck : ℕ → List ℕ → Checked

@@ -1,7 +1,7 @@
 -- 01, "Refused, and where", and 02: the returned number and the place of each refusal.
 use Prim.Native.Nat.{ℕ}
 use Rattle.sched.specs.declared.Refusal.{Refusal}
-use Rattle.sched.specs.declared.Refusal.the-variants.{Truncated, OutOfRange, UnknownBit, Redundant, EmptySpan, LeftOver, TooShort, Unequal, BadByte, TooOften, OutOfSpan, TooRare, PastHorizon, NoVolume}
+use Rattle.sched.specs.declared.Refusal.the-variants.{Truncated, OutOfRange, UnknownBit, Redundant, EmptySpan, LeftOver, TooShort, Unequal, BadByte, TooOften, OutOfSpan, TooRare, PastHorizon, NoVolume, PaddingBit, BadSlotByte, NoSuchRun}
 pub mod Laws
 
 abbrev pub number : Refusal → ℕ
@@ -19,6 +19,9 @@ number (OutOfSpan at) = 23
 number (TooRare at) = 24
 number (PastHorizon at) = 25
 number (NoVolume at) = 26
+number (PaddingBit at) = 31
+number (BadSlotByte at) = 32
+number (NoSuchRun at) = 33
 
 abbrev pub place : Refusal → ℕ
 place (Truncated at) = at
@@ -35,3 +38,6 @@ place (OutOfSpan at) = at
 place (TooRare at) = at
 place (PastHorizon at) = at
 place (NoVolume at) = at
+place (PaddingBit at) = at
+place (BadSlotByte at) = at
+place (NoSuchRun at) = at

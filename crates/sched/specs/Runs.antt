@@ -5,9 +5,10 @@ use mathlib.Core.Path.{_≡_}
 use mathlib.Core.Bool.{Bool, true, false, not}
 use mathlib.Core.List.{List, [], _∷_, List·Memᴰ}
 use lib.ListN.{length}
-use Rattle.sched.specs.Slots.{awake, awakeOf, awakeBefore}
+use Rattle.sched.specs.Slots.{awake, awakeBefore}
 use Rattle.sched.specs.Energy.{runs}
 pub mod Laws
+pub mod Search
 
 pub record Run : Type 0 where
   pub first : ℕ
@@ -49,9 +50,9 @@ pub record ListsRuns (S : List Bool) (listed : List Run) : Type 0 where
   pub every : (r : Run) → Longest S r → List·Memᴰ r listed
   pub apart : Apart 0 listed
 
--- the slots of a table from `from` up to but without `end` are all awake, or all asleep, and slot `end`, if there is one, is the other
-pub record StretchEnd (table : List ℕ) (from : ℕ) (state : Bool) (end : ℕ) : Type 0 where
+-- of a set of n slots, those from `from` up to but without `end` are all awake, or all asleep, and slot `end`, if there is one, is the other
+pub record StretchEnd (S : List Bool) (n from : ℕ) (state : Bool) (end : ℕ) : Type 0 where
   pub starts : from ≤ end
-  pub within : end ≤ length table
-  pub inside : (t : ℕ) → from ≤ t → t < end → awake (awakeOf table) t ≡ state
-  pub turns : end < length table → awake (awakeOf table) end ≡ not state
+  pub within : end ≤ n
+  pub inside : (t : ℕ) → from ≤ t → t < end → awake S t ≡ state
+  pub turns : end < n → awake S end ≡ not state

@@ -44,6 +44,12 @@ pub enum Refusal {
     PastHorizon(usize),
     // 26: the number of a job whose volume is 0.
     NoVolume(usize),
+    // 31: the offset of the last map byte, in which a padding bit stands.
+    PaddingBit(usize),
+    // 32: the offset of a slot byte that is no job number and not 254.
+    BadSlotByte(usize),
+    // 33: the number of runs, none of which has the number asked for.
+    NoSuchRun(usize),
 }
 
 // The answer of a check: it passes, or the first fault.
@@ -99,6 +105,9 @@ impl Refusal {
             Refusal::TooRare(_) => 24,
             Refusal::PastHorizon(_) => 25,
             Refusal::NoVolume(_) => 26,
+            Refusal::PaddingBit(_) => 31,
+            Refusal::BadSlotByte(_) => 32,
+            Refusal::NoSuchRun(_) => 33,
         }
     }
 
@@ -120,6 +129,9 @@ impl Refusal {
             Refusal::TooRare(at) => at,
             Refusal::PastHorizon(at) => at,
             Refusal::NoVolume(at) => at,
+            Refusal::PaddingBit(at) => at,
+            Refusal::BadSlotByte(at) => at,
+            Refusal::NoSuchRun(at) => at,
         }
     }
 }

@@ -21,7 +21,8 @@ use Rattle.sleep_plan.specs.Block.{blockLength, answered, numberIn}
 use Rattle.sleep_plan.specs.Block.Laws.{one-number}
 use Rattle.sleep_plan.specs.Puts.{Puts, PutsOutcome}
 use Rattle.sleep_plan.specs.Entry.{Answer, bytesCheck, Entry, inBlock}
-use Rattle.joblist.specs.Bytes.{AreBytes, spelling}
+use Rattle.sched.specs.TwoBytes.{AreBytes}
+use Rattle.joblist.specs.Bytes.{spelling}
 use Rattle.joblist.specs.Theorems.{spelling-read, spelling-list, read-list-passes, place-small}
 use Rattle.sleep_plan.specs.Entry.Laws.{entry-short, entry-answers, answer-refused, answer-planned}
 use Rattle.sleep_plan.specs.Promises.{asCall, CallPromise}

@@ -1,7 +1,6 @@
 // Horizons around the ends of a map byte and of 64 slots, with tables that sleep, wake, and both by turns.
 use super::judging;
 use super::recording;
-use super::tables;
 use test_faults::Job;
 
 // Prints, for a table with so many awake slots below h, the judge's answer without jobs, and the record writer's answers with two bytes more
@@ -37,11 +36,11 @@ fn each(all: bool, t: &[u8], out: &mut [u8]) {
 
 // Tables that are asleep, awake and both by turns, printed so.
 pub fn marks(t: &mut [u8], out: &mut [u8]) {
-    tables::fill(t, 255);
+    test_bytes::fill(t, 255);
     each(false, t, out);
-    tables::fill(t, 254);
+    test_bytes::fill(t, 254);
     each(true, t, out);
-    tables::alternate(t);
+    test_bytes::alternate(t);
     horizon(4096, 2048, t, out);
     horizon(65, 33, t, out);
 }

@@ -14,7 +14,7 @@ fn jobs(h: u16, q: u16, n: usize, job: Job, k: usize, other: Job, t: &[u8], len:
         tables::first_entries(&rs, n),
         tables::first_entries(&ds, n),
         tables::first_entries(&ps, n),
-        tables::first_bytes(t, len),
+        test_bytes::first_bytes(t, len),
     ));
 }
 
@@ -40,7 +40,7 @@ fn lengths(a: usize, b: usize, c: usize, t: &[u8]) {
 
 // Puts one byte more into t, and judges its first 4,096 bytes, all of them slots, against n equal jobs with wake cost 1.
 fn put_and_judge(t: &mut [u8], at: usize, byte: u8, n: usize, job: Job) {
-    tables::put(t, at, byte);
+    test_bytes::put(t, at, byte);
     equal(4096, 1, n, job, t, 4096);
 }
 
@@ -116,20 +116,20 @@ fn unknown_bytes(t: &mut [u8]) {
         d: 4096,
         p: 1,
     };
-    tables::fill(t, 255);
+    test_bytes::fill(t, 255);
     put_and_judge(t, 0, 1, 1, job);
     put_and_judge(t, 0, 64, 64, job);
     put_and_judge(t, 0, 253, 64, job);
-    tables::put(t, 0, 0);
+    test_bytes::put(t, 0, 0);
     put_and_judge(t, 4095, 64, 64, job);
     put_and_judge(t, 4095, 1, 1, job);
 }
 
 // No 21 behind the horizon.
 fn behind_the_horizon(t: &mut [u8]) {
-    tables::fill(t, 255);
-    tables::put(t, 0, 0);
-    tables::put(t, 4096, 64);
+    test_bytes::fill(t, 255);
+    test_bytes::put(t, 0, 0);
+    test_bytes::put(t, 4096, 64);
     equal(
         4096,
         1,
@@ -151,16 +151,16 @@ fn named_too_often(t: &mut [u8]) {
         d: 4096,
         p: 1,
     };
-    tables::fill(t, 255);
+    test_bytes::fill(t, 255);
     tables::count_up(t, 64);
     put_and_judge(t, 1, 0, 64, job);
-    tables::put(t, 1, 1);
+    test_bytes::put(t, 1, 1);
     put_and_judge(t, 4095, 63, 64, job);
 }
 
 // 22 comes before 23 at one slot, and the lower slot comes first.
 fn order_of_faults(t: &mut [u8]) {
-    tables::fill(t, 0);
+    test_bytes::fill(t, 0);
     equal(
         4096,
         1,
@@ -181,7 +181,7 @@ fn order_of_faults(t: &mut [u8]) {
 
 // 23 at the first and last slot.
 fn outside_the_span(t: &mut [u8]) {
-    tables::fill(t, 255);
+    test_bytes::fill(t, 255);
     put_and_judge(
         t,
         0,
@@ -193,7 +193,7 @@ fn outside_the_span(t: &mut [u8]) {
             p: 1,
         },
     );
-    tables::put(t, 0, 255);
+    test_bytes::put(t, 0, 255);
     put_and_judge(
         t,
         4095,
@@ -221,8 +221,8 @@ fn outside_the_span(t: &mut [u8]) {
 
 // 23 on either side of a job's own slots.
 fn around_the_span(t: &mut [u8]) {
-    tables::fill(t, 255);
-    tables::put(t, 5, 0);
+    test_bytes::fill(t, 255);
+    test_bytes::put(t, 5, 0);
     equal(8, 2, 1, Job { r: 5, d: 6, p: 1 }, t, 4096);
     equal(8, 2, 1, Job { r: 4, d: 5, p: 1 }, t, 4096);
     equal(8, 2, 1, Job { r: 6, d: 7, p: 1 }, t, 4096);
@@ -235,13 +235,13 @@ fn named_too_rarely(t: &mut [u8]) {
         d: 4096,
         p: 1,
     };
-    tables::fill(t, 255);
+    test_bytes::fill(t, 255);
     equal(4096, 1, 64, job, t, 4096);
     tables::count_up(t, 63);
     equal(4096, 1, 64, job, t, 4096);
     tables::count_up(t, 64);
     equal(4096, 1, 64, job, t, 4096);
-    tables::fill(t, 0);
+    test_bytes::fill(t, 0);
     equal(
         4096,
         1,

@@ -20,7 +20,7 @@ fn show_plan(
 ) {
     show::judged(judge::judge(h, q, rs, ds, ps, t));
     recording::within(h, t, t.len(), out, room);
-    show::bytes(tables::first_bytes(out, room));
+    test_bytes::bytes(test_bytes::first_bytes(out, room));
 }
 
 // The third plan that 01 works by hand.

@@ -7,8 +7,9 @@ use native.Mathlib.Omega.{arith}
 use borrow.Author.Tests.{eq-eqb, eqb-true}
 use lib.ListN.{length, drop}
 use lib.Dec.{eqb}
+use Rattle.sched.specs.TwoBytes.{AreBytes}
 use Rattle.sched.specs.TwoBytes.Laws.{word-back, word-again}
-use Rattle.joblist.specs.Bytes.{AreBytes, hasRelease, hasDeadline, hasVolume, mapByte, width}
+use Rattle.joblist.specs.Bytes.{hasRelease, hasDeadline, hasVolume, mapByte, width}
 use Rattle.joblist.specs.Bytes.{deadlineAt, volumeAt, entryLength, stands, bytesIf}
 use Rattle.joblist.specs.Entries.{valueIf, redundant}
 

@@ -7,15 +7,15 @@ use native.Mathlib.Omega.{arith}
 use lib.ListN.{length, drop}
 use Rattle.sched.specs.Jobs.{Jobs, count}
 use Rattle.sched.specs.Checks.{Passes}
-use Rattle.sched.specs.TwoBytes.{twoBytes}
-use Rattle.sched.specs.TwoBytes.Laws.{word-back, word-again}
-use Rattle.joblist.specs.Bytes.{AreBytes, headerLength, headerHorizon, headerWake, headerCount, headerStart}
+use Rattle.sched.specs.TwoBytes.{AreBytes, twoBytes}
+use Rattle.sched.specs.TwoBytes.Laws.{are-bytes-drop, word-back, word-again}
+use Rattle.joblist.specs.Bytes.{headerLength, headerHorizon, headerWake, headerCount, headerStart}
 use Rattle.joblist.specs.Bytes.{countIn, startIn, countByte, entriesBytes, spelling}
 use Rattle.joblist.specs.Entries.{entrySize, releaseOf, deadlineOf, volumeOf, column}
 use Rattle.joblist.specs.Reading.{LentRoom, listOf}
 use Rattle.joblist.specs.Laws.Walk.{column-length}
 use Rattle.joblist.specs.Laws.Input.{GoodInput}
-use Rattle.joblist.specs.Laws.RoundTrip.{are-bytes-drop, EntriesBack, entries-back, EntriesAgain, entries-again}
+use Rattle.joblist.specs.Laws.RoundTrip.{EntriesBack, entries-back, EntriesAgain, entries-again}
 
 pub same-list : (J K : Jobs) → J .horizon ≡ K .horizon → J .wake ≡ K .wake → J .start ≡ K .start →
     J .releases ≡ K .releases → J .deadlines ≡ K .deadlines → J .volumes ≡ K .volumes → J ≡ K

@@ -1,15 +1,17 @@
 -- Entries and whole lists, written and read back, and read and written again.
-use Prim.Native.Nat.{ℕ, zero, suc, _+_, _<_}
+use Prim.Native.Nat.{ℕ, zero, suc, _<_}
 use mathlib.Core.Path.{_≡_, refl, ap, _∙_}
 use mathlib.Core.Bool.{Bool}
 use mathlib.Core.List.{List, [], _∷_, _++_, append-assoc}
 use native.Mathlib.Omega.{arith}
 use lib.ListN.{length, getD, drop, length-drop}
-use lib.Seq.{drop-drop, getD-drop}
+use lib.Seq.{drop-drop}
+use Rattle.sched.specs.TwoBytes.{AreBytes}
+use Rattle.sched.specs.TwoBytes.Laws.{are-bytes-drop}
 use Rattle.sched.specs.Checks.{GoodJob, jobCheck}
 use Rattle.sched.specs.Checks.Laws.{then-passes, job-good, job-passes}
 use Rattle.sched.specs.declared.Checked.the-variants.{Passed}
-use Rattle.joblist.specs.Bytes.{AreBytes, absentRelease, absentDeadline, absentVolume, hasRelease, hasDeadline, hasVolume, mapByte}
+use Rattle.joblist.specs.Bytes.{absentRelease, absentDeadline, absentVolume, hasRelease, hasDeadline, hasVolume, mapByte}
 use Rattle.joblist.specs.Bytes.{width, deadlineAt, volumeAt, stands, bytesIf, entryBytes, entriesBytes}
 use Rattle.joblist.specs.Entries.{entrySize, releaseOf, deadlineOf, volumeOf, entryCheck, entriesCheck, column}
 use Rattle.joblist.specs.Laws.Walk.{entries-first, entries-none}
@@ -94,9 +96,6 @@ entries-back h (r ∷ rs) (d ∷ ds) (p ∷ ps) e f g =
     }
 
 -- Read and written again
-
-pub are-bytes-drop : (k : ℕ) (bs : List ℕ) → AreBytes bs → AreBytes (drop k bs)
-are-bytes-drop k bs small i = rw getD-drop (small (k + i))
 
 glue : (m r d p : ℕ) (a b c a′ b′ c′ : Bool) (bs bs₁ bs₂ bs₃ : List ℕ) → a′ ≡ a → b′ ≡ b → c′ ≡ c → mapByte a b c ≡ m → bytesIf a r ++ bs₁ ≡ bs →
     bytesIf b d ++ bs₂ ≡ bs₁ → bytesIf c p ++ bs₃ ≡ bs₂ → layout a′ b′ c′ r d p bs₃ ≡ m ∷ bs

@@ -32,7 +32,7 @@ awake-split (true ∷ S) zero = omega arith
 awake-split (false ∷ S) zero = omega arith
 awake-split (b ∷ S) (suc t) = awake-split S t
 
-ones-zero : ones 0 ≡ 0
+pub ones-zero : ones 0 ≡ 0
 unfolding ones onesIn
 ones-zero = refl
 

@@ -10,7 +10,7 @@ use borrow.Author.Tests.{lt-leb, lt-ltb, le-ltb, eq-eqb, ne-eqb, leb-false, ltb-
 use lib.ListN.{length, getD}
 use lib.Dec.{leb, ltb, eqb}
 use Rattle.sched.specs.Jobs.{Jobs, count}
-use Rattle.sched.specs.Refusals.{place}
+use Rattle.sched.specs.Refusals.{number, place}
 use Rattle.sched.specs.Checks.{checkedNumber, checkedValues, CheckPromise, GoodJob, Passes, refuseIf, andThen, horizonCheck, lengthCheck, tableCheck, bytesFrom, slotsCheck, jobCheck, checkFrom, jobsCheck, countCheck, listsCheck, checkOf}
 use Rattle.sched.specs.declared.Refusal.{Refusal}
 use Rattle.sched.specs.declared.Refusal.the-variants.{OutOfRange, EmptySpan, TooShort, Unequal, PastHorizon, NoVolume}
@@ -68,6 +68,29 @@ then-fails a c r e = ap (λ (x : Checked). andThen x c) e
 
 pub then-passes : (a c : Checked) → a ≡ Passed → andThen a c ≡ c
 then-passes a c e = ap (λ (x : Checked). andThen x c) e
+
+-- a number that the check in front cannot give: it has passed, and what follows decides
+pub past-refusal : (n : ℕ) (b : Bool) (r : Refusal) (c : Checked) → (number r ≡ n → ⊥) → checkedNumber (refuseIf b r c) ≡ n → (b ≡ false) × (refuseIf b r c ≡ c)
+past-refusal n true r c other e = absurd (other e)
+past-refusal n false r c other e = (refl, refl)
+
+pub past-check : (n : ℕ) (a c : Checked) → (checkedNumber a ≡ n → ⊥) → checkedNumber (andThen a c) ≡ n → (a ≡ Passed) × (andThen a c ≡ c)
+past-check n Passed c other e = (refl, refl)
+past-check n (Refused r) c other e = absurd (other e)
+
+-- numbers up to m
+pub refusal-at-most : (m : ℕ) (b : Bool) (r : Refusal) (c : Checked) → number r ≤ m → checkedNumber c ≤ m → checkedNumber (refuseIf b r c) ≤ m
+refusal-at-most m true r c here later = here
+refusal-at-most m false r c here later = later
+
+pub check-at-most : (m : ℕ) (a c : Checked) → checkedNumber a ≤ m → checkedNumber c ≤ m → checkedNumber (andThen a c) ≤ m
+check-at-most m Passed c here later = later
+check-at-most m (Refused r) c here later = here
+
+pub horizon-at-most : (h : ℕ) → checkedNumber (horizonCheck h) ≤ 12
+horizon-at-most h =
+    refusal-at-most 12 (eqb h 0) (OutOfRange 0) (refuseIf (ltb 4096 h) (OutOfRange 0) Passed) (omega arith)
+    (refusal-at-most 12 (ltb 4096 h) (OutOfRange 0) Passed (omega arith) (omega arith))
 
 -- H, and lengths
 

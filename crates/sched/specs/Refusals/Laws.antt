@@ -3,7 +3,7 @@ use mathlib.Core.Path.{_≡_}
 use native.Mathlib.Omega.{arith}
 use Rattle.sched.specs.Refusals.{number}
 use Rattle.sched.specs.declared.Refusal.{Refusal}
-use Rattle.sched.specs.declared.Refusal.the-variants.{Truncated, OutOfRange, UnknownBit, Redundant, EmptySpan, LeftOver, TooShort, Unequal, BadByte, TooOften, OutOfSpan, TooRare, PastHorizon, NoVolume}
+use Rattle.sched.specs.declared.Refusal.the-variants.{Truncated, OutOfRange, UnknownBit, Redundant, EmptySpan, LeftOver, TooShort, Unequal, BadByte, TooOften, OutOfSpan, TooRare, PastHorizon, NoVolume, PaddingBit, BadSlotByte, NoSuchRun}
 
 -- every refusal has a number above 0
 pub refusal-number : (r : Refusal) → number r ≡ 0 → ⊥
@@ -21,3 +21,6 @@ refusal-number (OutOfSpan at) e = omega arith
 refusal-number (TooRare at) e = omega arith
 refusal-number (PastHorizon at) e = omega arith
 refusal-number (NoVolume at) e = omega arith
+refusal-number (PaddingBit at) e = omega arith
+refusal-number (BadSlotByte at) e = omega arith
+refusal-number (NoSuchRun at) e = omega arith

@@ -7,11 +7,10 @@ use mathlib.Core.Logic.{_⊎_, inl, inr}
 use native.Mathlib.Nat.{zero-add, suc-add, add-suc, add-zero, le-refl}
 use native.Mathlib.Omega.{arith}
 use native.Mathlib.Decide.{decLt}
-use lib.ListN.{length, getD, drop, List·getD-eq-default}
+use lib.ListN.{length, getD, drop, drop-of-length-le, List·getD-eq-default}
 use lib.Seq.{drop-drop, getD-drop}
 use Rattle.sched.specs.Bounded.Laws.{true-not-false}
-use Rattle.sched.specs.Slots.{awake, awakeOf, awakeBefore}
-use Rattle.sched.specs.Slots.Laws.{awake-of-length}
+use Rattle.sched.specs.Slots.{awake, awakeBefore}
 use Rattle.sched.specs.Energy.{runsFrom}
 use Rattle.sched.specs.Runs.{Run, Longest, leading, runListFrom, runList, Apart, ListsRuns, StretchEnd}
 
@@ -239,32 +238,36 @@ take-awake (suc k) t (true ∷ S) some inside after =
     skip-awake k (suc t) S tail after ∙ ap (λ (n : ℕ). runListFrom false n (drop k S)) e in
     rw (long, rest)
 
--- the runs of a table from slot t on, where none is under way
-abbrev pub runsLeft : List ℕ → ℕ → List Run
-runsLeft table t = runListFrom false t (drop t (awakeOf table))
+-- the runs of a set from slot t on, where none is under way
+abbrev pub runsLeft : List Bool → ℕ → List Run
+runsLeft S t = runListFrom false t (drop t S)
 
-module _ (table : List ℕ) (from end : ℕ) where
-  slot : (i : ℕ) → getD (drop from (awakeOf table)) i false ≡ awake (awakeOf table) (from + i)
-  slot i = getD-drop from (awakeOf table) i false
+-- none behind the last slot
+pub none-left : (S : List Bool) (t : ℕ) → length S ≤ t → runsLeft S t ≡ []
+unfolding runListFrom
+none-left S t l = ap (runListFrom false t) (drop-of-length-le S {i = t} l)
 
-  moved-to : from ≤ end → runListFrom false (from + (end - from)) (drop (end - from) (drop from (awakeOf table))) ≡ runsLeft table end
+module _ (S : List Bool) (n from end : ℕ) where
+  slot : (i : ℕ) → getD (drop from S) i false ≡ awake S (from + i)
+  slot i = getD-drop from S i false
+
+  moved-to : from ≤ end → runListFrom false (from + (end - from)) (drop (end - from) (drop from S)) ≡ runsLeft S end
   moved-to l =
       let e : from + (end - from) ≡ end = omega arith in
-      ap (runListFrom false (from + (end - from))) (drop-drop (end - from) from (awakeOf table)) ∙ ap (runsLeft table) e
+      ap (runListFrom false (from + (end - from))) (drop-drop (end - from) from S) ∙ ap (runsLeft S) e
 
   -- a sleeping stretch is passed
-  pub stretch-asleep : StretchEnd table from false end → runsLeft table from ≡ runsLeft table end
+  pub stretch-asleep : StretchEnd S n from false end → runsLeft S from ≡ runsLeft S end
   stretch-asleep s =
-      skip-asleep (end - from) from (drop from (awakeOf table)) (λ i l. slot i ∙ s .inside (from + i) (omega arith) (omega arith))
-      ∙ moved-to (s .starts)
+      skip-asleep (end - from) from (drop from S) (λ i l. slot i ∙ s .inside (from + i) (omega arith) (omega arith)) ∙ moved-to (s .starts)
 
   -- an awake one is the next run
-  pub stretch-awake : StretchEnd table from true end → from < end → runsLeft table from ≡ record { first = from; slots = end - from } ∷ runsLeft table end
-  stretch-awake s l =
-      take-awake (end - from) from (drop from (awakeOf table)) (omega arith) (λ i m. slot i ∙ s .inside (from + i) (omega arith) (omega arith))
-      (slot (end - from) ∙ ap (awake (awakeOf table)) (let e : from + (end - from) ≡ end = omega arith in e) ∙ ends (decLt end (length table)))
+  pub stretch-awake : length S ≡ n → StretchEnd S n from true end → from < end → runsLeft S from ≡ record { first = from; slots = end - from } ∷ runsLeft S end
+  stretch-awake long s l =
+      take-awake (end - from) from (drop from S) (omega arith) (λ i m. slot i ∙ s .inside (from + i) (omega arith) (omega arith))
+      (slot (end - from) ∙ ap (awake S) (let e : from + (end - from) ≡ end = omega arith in e) ∙ ends (decLt end n))
       ∙ ap (λ (rest : List Run). record { first = from; slots = end - from } ∷ rest) (moved-to (s .starts))
     where
-      ends : Dec (end < length table) → awake (awakeOf table) end ≡ false
+      ends : Dec (end < n) → awake S end ≡ false
       ends (yes m) = s .turns m
-      ends (no m) = List·getD-eq-default (awakeOf table) false (rw awake-of-length (omega arith))
+      ends (no m) = List·getD-eq-default S false (omega arith)

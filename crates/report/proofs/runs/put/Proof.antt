@@ -3,7 +3,9 @@ use Prim.Native.Nat.{_-_}
 use native.Mathlib.Omega.{arith}
 use borrow.Author.Needs.{needs}
 use lib.ListN.{length}
-use Rattle.report.proofs.Stretches.{run-moves, LinesLeft, lines-left-start, lines-left-room, lines-left-turn, lines-left-end}
+use Rattle.sched.specs.Slots.{awakeOf}
+use Rattle.sched.specs.Runs.Search.{run-moves}
+use Rattle.report.proofs.Stretches.{LinesLeft, lines-left-start, lines-left-room, lines-left-turn, lines-left-end}
 use Rattle.report.proofs.runs.put.Statement.{statement}
 use Rattle.report.proofs.runs.put.Tie as tie
 
@@ -42,7 +44,7 @@ loop-less c =
     omega (
       arith,
       c .end3 .ensures .starts,
-      run-moves (test .before .before .before .before .before .args .table .now) (test .before .loop .first) _ (test .before .loop .inv .from)
+      run-moves (awakeOf (test .before .before .before .before .before .args .table .now)) (length (test .before .before .before .before .before .args .table .now)) (test .before .loop .first) _ (test .before .loop .inv .from)
           (test .loop-test .taken) (run .end2 .ensures),
     )
 

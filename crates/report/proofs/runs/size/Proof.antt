@@ -3,7 +3,9 @@ use Prim.Native.Nat.{_-_}
 use native.Mathlib.Omega.{arith}
 use borrow.Author.Needs.{needs}
 use lib.ListN.{length}
-use Rattle.report.proofs.Stretches.{run-moves, LinesSized, lines-sized-start, lines-sized-few, lines-sized-turn, lines-sized-end}
+use Rattle.sched.specs.Slots.{awakeOf}
+use Rattle.sched.specs.Runs.Search.{run-moves}
+use Rattle.report.proofs.Stretches.{LinesSized, lines-sized-start, lines-sized-few, lines-sized-turn, lines-sized-end}
 use Rattle.report.proofs.runs.size.Statement.{statement}
 use Rattle.report.proofs.runs.size.Tie as tie
 
@@ -47,7 +49,7 @@ loop-less c =
     omega (
       arith,
       c .end3 .ensures .starts,
-      run-moves (test .before .before .before .before .args .table .now) (test .before .loop .first) _ (test .before .loop .inv .from)
+      run-moves (awakeOf (test .before .before .before .before .args .table .now)) (length (test .before .before .before .before .args .table .now)) (test .before .loop .first) _ (test .before .loop .inv .from)
           (test .loop-test .taken) (run .end2 .ensures),
     )
 

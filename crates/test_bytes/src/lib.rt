@@ -1,0 +1,82 @@
+// What test programs share: numbers and bytes printed, digests of bytes, and tables. That a function prints what is said above it, the `stdout`
+// of the programs shows; it is not proved.
+ghost use mathlib.Core.Path.{_≡_};
+ghost use lib.ListN.{length, take, set, replicate};
+use libc::STDOUT_FILENO;
+
+// Prints a space and n in decimal.
+pub fn number(n: u64) {
+    io::write_all(STDOUT_FILENO, b" ");
+    io::print_decimal(STDOUT_FILENO, n);
+}
+
+// Ends the line.
+pub fn end_line() {
+    io::write_all(STDOUT_FILENO, b"\n");
+}
+
+// A number that depends on every byte and its place: from 0 on, for each byte in turn, 257 times the number so far plus the byte plus 1,
+// modulo 1,000,003. So 0 for no byte.
+pub fn digest(out: &[u8]) -> u64 {
+    let mut sum: u64 = 0;
+    let mut i = 0;
+    while i < out.len() {
+        sum = (sum * 257 + out[i] as u64 + 1) % 1000003;
+        i += 1;
+    }
+    sum
+}
+
+// Prints a line of all bytes.
+pub fn bytes(out: &[u8]) {
+    let mut i = 0;
+    while i < out.len() {
+        number(out[i] as u64);
+        i += 1;
+    }
+    end_line();
+}
+
+// Stores the byte in slot `at`; nothing past the end.
+pub fn put(t: &mut [u8], at: usize, byte: u8)
+    ensures { λ _. ⌜ now (t .exit) ≡ set (now (t .entry)) at byte ⌝ }
+{
+    if at < t.len() {
+        t[at] = byte;
+    }
+}
+
+// Stores the byte in every slot.
+pub fn fill(t: &mut [u8], byte: u8)
+    ensures { λ _. ⌜ now (t .exit) ≡ replicate (length (now (t .entry))) byte ⌝ }
+{
+    let mut i = 0;
+    while i < t.len() {
+        t[i] = byte;
+        i += 1;
+    }
+}
+
+// Makes slots 0, 2, 4, .. idle (254), the others asleep (255).
+pub fn alternate(t: &mut [u8]) {
+    let mut i = 0;
+    while i < t.len() {
+        if i % 2 == 0 {
+            t[i] = 254;
+            i += 1;
+        } else {
+            t[i] = 255;
+            i += 1;
+        }
+    }
+}
+
+// The first n bytes, or all where there are fewer.
+pub fn first_bytes(s: &[u8], n: usize) -> &[u8]
+    ensures { λ r. ⌜ now r ≡ take n (now (s .entry)) ⌝ }
+{
+    if n <= s.len() {
+        return &s[..n];
+    }
+    s
+}

@@ -1,0 +1,2 @@
+-- What the benchmark's call of the record reader gives.
+pub mod Call
