@@ -3,7 +3,6 @@
 #define _GNU_SOURCE
 #include "plain_read.h"
 #include <stdio.h>
-#include <stdlib.h>
 #include <string.h>
 #include <time.h>
 
@@ -46,11 +45,7 @@ static double least(double so_far, uint32_t (*read)(const uint8_t *, size_t, uin
   return took < so_far ? took : so_far;
 }
 
-int main(int argc, char **argv) {
-  if (argc > 1) { /* one call, for a counter of instructions */
-    make(atoi(argv[1]));
-    return (int)read_record_0(record, length, ours, H);
-  }
+int main(void) {
   printf("%-10s %9s %9s %7s\n", "map", "plain", "ours", "/plain");
   for (int m = 0; m < MAPS; m++) {
     double p = 1e18, o = 1e18;

@@ -9,7 +9,7 @@ use Rattle.sched.specs.TwoBytes.{word}
 use Rattle.sched.specs.Checks.Laws.{then-fails, then-passes}
 use Rattle.sched.specs.declared.Checked.the-variants.{Passed, Refused as Faulty}
 use Rattle.sched.specs.declared.Refusal.{Refusal}
-use Rattle.record.specs.declared.RunPart.{RunPart}
+use Rattle.record.specs.declared.RunPlace.{RunPlace}
 use Rattle.record.specs.declared.RunFound.{RunFound}
 use Rattle.record.specs.declared.RunFound.the-variants.{Found, Refused}
 use Rattle.record.specs.Record.{behindMap}
@@ -38,7 +38,7 @@ searched bytes k p h e behind f answer a =
     ∙ sym (ap (runAnswer (slotsIn bytes) (behindMap (word bytes)) k) (then-passes (recordCheck bytes) (existsCheck (slotsIn bytes) k) p)))
 
 module _ (bytes : List ℕ) (k : ℕ) (answer : RunFound) (w : Finds bytes k answer) where
-  pub part-told : (part : RunPart) → answer ≡ Found part → take (part .offset + part .len - part .offset) (drop (part .offset) bytes) ≡ runPart bytes k
+  pub part-told : (part : RunPlace) → answer ≡ Found part → take (part .offset + part .len - part .offset) (drop (part .offset) bytes) ≡ runPart bytes k
   part-told part e =
       let q : part .offset + part .len - part .offset ≡ part .len = omega arith in
       ap (λ (n : ℕ). take n (drop (part .offset) bytes)) q ∙ ap (partOf bytes) (sym e ∙ w .same)

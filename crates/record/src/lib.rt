@@ -38,14 +38,14 @@ pub enum RecordRead {
 }
 
 // A run's first slot, and where its slot bytes stand in the record: their offset and how many they are.
-pub struct RunPart {
+pub struct RunPlace {
     pub first: usize,
     pub offset: usize,
     pub len: usize,
 }
 
 pub enum RunFound {
-    Found(RunPart),
+    Found(RunPlace),
     Refused(Refusal),
 }
 

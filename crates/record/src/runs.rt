@@ -6,7 +6,7 @@ ghost use Rattle.sched.specs.Runs.{StretchEnd};
 ghost use Rattle.record.specs.MapBits.{bitsOf};
 ghost use Rattle.record.specs.OneRun.{existsCheck, runAnswer};
 use crate::RunFound;
-use crate::RunPart;
+use crate::RunPlace;
 use crate::map;
 use sched::Refusal;
 
@@ -36,7 +36,7 @@ pub fn find(bits: &[u8], h: usize, behind: usize, k: usize) -> RunFound
     while first < h {
         let stop = end(bits, h, first, true);
         if seen == k {
-            return RunFound::Found(RunPart {
+            return RunFound::Found(RunPlace {
                 first,
                 offset: at,
                 len: stop - first,

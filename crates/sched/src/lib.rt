@@ -14,7 +14,7 @@ pub const IDLE: u8 = 254;
 
 pub const ASLEEP: u8 = 255;
 
-// One case for each row of the refusal table that is no overload; each holds its place.
+// One case for each refusal of documents 01 and 02 that is no overload; each holds its place.
 pub enum Refusal {
     // 11: the length of the input, which ends too early.
     Truncated(usize),

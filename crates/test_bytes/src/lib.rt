@@ -1,4 +1,4 @@
-// What test programs share: numbers and bytes printed, digests of bytes, and tables. That a function prints what is said above it, the `stdout`
+// What `test_tables` and `test_records` share: numbers and bytes printed, digests of bytes, and tables. That a function prints what is said above it, the `stdout`
 // of the programs shows; it is not proved.
 ghost use mathlib.Core.Path.{_≡_};
 ghost use lib.ListN.{length, take, set, replicate};

@@ -14,7 +14,7 @@ fn base() -> [u8; 34] {
     out
 }
 
-// The next state: a linear congruence modulo 65,536, of which a state has higher bits as well.
+// The next state, which only the low 16 bits of a state decide.
 fn next(s: u32) -> u32
     ensures { λ r. ⌜ r ≡ s % 65536 * 25173 + 13849 ⌝ }
 {

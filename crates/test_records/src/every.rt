@@ -1,4 +1,4 @@
-// All records of one map byte with horizon 1 to 4 and up to five bytes behind the map from six.
+// All records of one map byte with horizon 1 to 4 and up to five bytes behind the map, each of six values.
 use super::show;
 use super::tally;
 use test_bytes::number;

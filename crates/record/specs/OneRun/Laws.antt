@@ -21,7 +21,7 @@ use Rattle.sched.specs.declared.Refusal.{Refusal}
 use Rattle.sched.specs.declared.Refusal.the-variants.{NoSuchRun}
 use Rattle.sched.specs.declared.Checked.{Checked}
 use Rattle.sched.specs.declared.Checked.the-variants.{Passed, Refused as Faulty}
-use Rattle.record.specs.declared.RunPart.{RunPart}
+use Rattle.record.specs.declared.RunPlace.{RunPlace}
 use Rattle.record.specs.declared.RunFound.{RunFound}
 use Rattle.record.specs.declared.RunFound.the-variants.{Found, Refused}
 use Rattle.record.specs.Record.{behindMap}
@@ -157,7 +157,7 @@ pub run-fits : (S : List Bool) (r : Run) → Longest S r → awakeSlots (take (r
 run-fits S r g = omega (arith, awake-over-run S (r .first) (r .slots) (g .inside), awake-part S (r .first + r .slots))
 
 -- what an answer that finds a run knows
-pub record FoundRun (bytes : List ℕ) (k : ℕ) (part : RunPart) : Type 0 where
+pub record FoundRun (bytes : List ℕ) (k : ℕ) (part : RunPlace) : Type 0 where
   pub good : GoodRecord bytes
   pub exists : k < length (runList (slotsIn bytes))
   pub first : part .first ≡ runAt (slotsIn bytes) k .first
@@ -176,10 +176,10 @@ lenOf : RunFound → ℕ
 lenOf (Found part) = part .len
 lenOf (Refused r) = 0
 
-refused-not-found : {A : Type 0} (r : Refusal) (part : RunPart) → Refused r ≡ Found part → A
+refused-not-found : {A : Type 0} (r : Refusal) (part : RunPlace) → Refused r ≡ Found part → A
 refused-not-found r part e = let z : _≡_ {A = ℕ} 0 1 = cc in absurd (omega arith)
 
-pub found-run : (bytes : List ℕ) (k : ℕ) (part : RunPart) → runIn bytes k ≡ Found part → FoundRun bytes k part
+pub found-run : (bytes : List ℕ) (k : ℕ) (part : RunPlace) → runIn bytes k ≡ Found part → FoundRun bytes k part
 unfolding firstOf offsetOf lenOf
 found-run bytes k part e = by (runCheck bytes k) refl
   where
@@ -201,7 +201,7 @@ found-run bytes k part e = by (runCheck bytes k) refl
         }
 
 -- it lies within the record
-pub part-within : (bytes : List ℕ) (k : ℕ) (part : RunPart) → AreBytes bytes → runIn bytes k ≡ Found part → part .offset + part .len ≤ length bytes
+pub part-within : (bytes : List ℕ) (k : ℕ) (part : RunPlace) → AreBytes bytes → runIn bytes k ≡ Found part → part .offset + part .len ≤ length bytes
 part-within bytes k part small e =
     let f = found-run bytes k part e in
     let S = slotsIn bytes in
@@ -215,7 +215,7 @@ part-within bytes k part small e =
       f .good .whole,
     )
 
-pub part-small : (bytes : List ℕ) (k : ℕ) (part : RunPart) → AreBytes bytes → runIn bytes k ≡ Found part → part .offset + part .len ≤ 4610
+pub part-small : (bytes : List ℕ) (k : ℕ) (part : RunPlace) → AreBytes bytes → runIn bytes k ≡ Found part → part .offset + part .len ≤ 4610
 part-small bytes k part small e =
     let g = found-run bytes k part e .good in
     omega (

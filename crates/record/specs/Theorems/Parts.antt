@@ -25,7 +25,7 @@ use Rattle.sched.specs.declared.Refusal.{Refusal}
 use Rattle.sched.specs.declared.Refusal.the-variants.{Truncated, LeftOver, PaddingBit, BadSlotByte, NoSuchRun}
 use Rattle.sched.specs.declared.Checked.{Checked}
 use Rattle.sched.specs.declared.Checked.the-variants.{Passed, Refused as Faulty}
-use Rattle.record.specs.declared.RunPart.{RunPart}
+use Rattle.record.specs.declared.RunPlace.{RunPlace}
 use Rattle.record.specs.declared.RunFound.{RunFound}
 use Rattle.record.specs.declared.RunFound.the-variants.{Found, Refused}
 use Rattle.record.specs.declared.RecordRead.the-variants.{Read}
@@ -183,14 +183,14 @@ module _ (bytes : List ℕ) (small : AreBytes bytes) (p : recordCheck bytes ≡ 
 
 -- 1. A run that is found is the k-th of the longest stretches of the map, which are all listed, once, in rising order; its part is as long as the
 -- run, and holds what stands in its slots in the record's table.
-pub record RunIs (bytes : List ℕ) (k : ℕ) (at : RunPart) : Type 0 where
+pub record RunIs (bytes : List ℕ) (k : ℕ) (at : RunPlace) : Type 0 where
   pub listed : ListsRuns (slotsIn bytes) (runList (slotsIn bytes))
   pub exists : k < length (runList (slotsIn bytes))
   pub kth : runAt (slotsIn bytes) k ≡ record { first = at .first; slots = at .len }
   pub long : length (runPart bytes k) ≡ at .len
   pub slots : runPart bytes k ≡ take (at .len) (drop (at .first) (tableIn bytes))
 
-pub run-is : (bytes : List ℕ) (k : ℕ) (at : RunPart) → AreBytes bytes → Finds bytes k (Found at) → RunIs bytes k at
+pub run-is : (bytes : List ℕ) (k : ℕ) (at : RunPlace) → AreBytes bytes → Finds bytes k (Found at) → RunIs bytes k at
 run-is bytes k at small f =
     let w = found-run bytes k at (sym (f .same)) in
     let p = record-passes bytes (w .good) in
@@ -273,7 +273,7 @@ all-runs bytes k n answer small f told place = by (runCheck bytes k) refl
     by Passed e = absurd (omega (arith, number-is Passed e))
     by (Faulty r) e =
         let number : checkedNumber (runCheck bytes k) ≡ 33 = ap checkedNumber e ∙ number-is (Faulty r) e in
-        let past = past-check 33 (recordCheck bytes) (existsCheck S k) (λ z. omega (arith, record-at-most bytes)) number in
+        let past = past-check (λ (m : ℕ). m ≡ 33) (recordCheck bytes) (existsCheck S k) (λ z. omega (arith, record-at-most bytes)) number in
         exists (past .0) (leb (length (runList S)) k) r refl (sym (then-passes (recordCheck bytes) (existsCheck S k) (past .0)) ∙ e) (values-are (Faulty r) e)
 
 -- 3. The part is empty exactly where `find_run` refuses.
@@ -292,7 +292,7 @@ part-empty-iff-refused bytes part k answer small f e = by answer (f .same)
             omega (arith, ap length (sym e ∙ z), part-long bytes small p k (w .exists), run-longest (slotsIn bytes) k (w .exists) .some)
 
 -- 4. Where the record is read, the part holds the bytes of the run's slots in the lent table.
-pub part-is-in-table : (bytes lent filled : List ℕ) (h k : ℕ) (at : RunPart) → AreBytes bytes → Reads bytes lent (Read h) filled → Finds bytes k (Found at) →
+pub part-is-in-table : (bytes lent filled : List ℕ) (h k : ℕ) (at : RunPlace) → AreBytes bytes → Reads bytes lent (Read h) filled → Finds bytes k (Found at) →
     runPart bytes k ≡ take (at .len) (drop (at .first) filled)
 part-is-in-table bytes lent filled h k at small r f =
     let w = found-run bytes k at (sym (f .same)) in

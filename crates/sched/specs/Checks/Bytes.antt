@@ -1,5 +1,5 @@
--- The walk over bytes, by any check of a byte: a byte that passes, one that does not, and the end, where `all` is what the whole walk gives; and
--- the walk passes exactly where each byte does.
+-- The walk over bytes, by any check of a byte: a byte that passes, one that does not, and the end, where `all` is what the whole walk gives. The
+-- walk passes exactly where each byte does, tells no other numbers than its check, and names the first byte that does not pass.
 use Prim.Native.Nat.{ℕ, zero, suc, _+_, _-_, _≤_, _<_}
 use mathlib.Core.Path.{_≡_, refl, sym, ap, _∙_}
 use mathlib.Core.List.{List}

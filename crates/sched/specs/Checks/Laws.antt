@@ -69,14 +69,14 @@ then-fails a c r e = ap (λ (x : Checked). andThen x c) e
 pub then-passes : (a c : Checked) → a ≡ Passed → andThen a c ≡ c
 then-passes a c e = ap (λ (x : Checked). andThen x c) e
 
--- a number that the check in front cannot give: it has passed, and what follows decides
-pub past-refusal : (n : ℕ) (b : Bool) (r : Refusal) (c : Checked) → (number r ≡ n → ⊥) → checkedNumber (refuseIf b r c) ≡ n → (b ≡ false) × (refuseIf b r c ≡ c)
-past-refusal n true r c other e = absurd (other e)
-past-refusal n false r c other e = (refl, refl)
+-- numbers P that the check in front cannot give: it has passed, and what follows decides
+pub past-refusal : (P : ℕ → Type 0) (b : Bool) (r : Refusal) (c : Checked) → (P (number r) → ⊥) → P (checkedNumber (refuseIf b r c)) → (b ≡ false) × (refuseIf b r c ≡ c)
+past-refusal P true r c other e = absurd (other e)
+past-refusal P false r c other e = (refl, refl)
 
-pub past-check : (n : ℕ) (a c : Checked) → (checkedNumber a ≡ n → ⊥) → checkedNumber (andThen a c) ≡ n → (a ≡ Passed) × (andThen a c ≡ c)
-past-check n Passed c other e = (refl, refl)
-past-check n (Refused r) c other e = absurd (other e)
+pub past-check : (P : ℕ → Type 0) (a c : Checked) → (P (checkedNumber a) → ⊥) → P (checkedNumber (andThen a c)) → (a ≡ Passed) × (andThen a c ≡ c)
+past-check P Passed c other e = (refl, refl)
+past-check P (Refused r) c other e = absurd (other e)
 
 -- numbers up to m
 pub refusal-at-most : (m : ℕ) (b : Bool) (r : Refusal) (c : Checked) → number r ≤ m → checkedNumber c ≤ m → checkedNumber (refuseIf b r c) ≤ m

@@ -1,12 +1,13 @@
 -- 02, card 1: when an answer refuses a job, and what is then known of the checks in front.
 use Prim.Native.Nat.{ℕ, _<_}
-use mathlib.Core.Path.{_≡_, refl}
+use mathlib.Core.Path.{_≡_}
 use mathlib.Core.Bool.{Bool, true, false}
 use mathlib.Core.Logic.{_⊎_, inl, inr}
 use native.Mathlib.Omega.{arith}
 use lib.Dec.{ltb, eqb}
 use Rattle.sched.specs.Refusals.{number}
 use Rattle.sched.specs.Checks.{refuseIf, andThen, horizonCheck, countCheck, lengthCheck, checkedNumber}
+use Rattle.sched.specs.Checks.Laws.{past-refusal, past-check}
 use Rattle.sched.specs.declared.Refusal.{Refusal}
 use Rattle.sched.specs.declared.Refusal.the-variants.{OutOfRange, TooShort}
 use Rattle.sched.specs.declared.Checked.{Checked}
@@ -33,20 +34,16 @@ not-job n (inr l) (inr (inr e)) = omega (arith, l .1)
 
 pub past-if : (b : Bool) (r : Refusal) (c : Checked) → (JobFaultNumber (number r) → ⊥) → RefusesJob (refuseIf b r c) →
     refuseIf b r c ≡ c
-past-if true r c other f = absurd (other f)
-past-if false r c other f = refl
+past-if b r c other f = past-refusal JobFaultNumber b r c other f .1
 
 pub past-then : (a c : Checked) → (RefusesJob a → ⊥) → RefusesJob (andThen a c) → andThen a c ≡ c
-past-then Passed c other f = refl
-past-then (Refused r) c other f = absurd (other f)
+past-then a c other f = past-check JobFaultNumber a c other f .1
 
 pub before-if : (b : Bool) (r : Refusal) (c : Checked) → (JobFaultNumber (number r) → ⊥) → RefusesJob (refuseIf b r c) → b ≡ false
-before-if true r c other f = absurd (other f)
-before-if false r c other f = refl
+before-if b r c other f = past-refusal JobFaultNumber b r c other f .0
 
 pub before-then : (a c : Checked) → (RefusesJob a → ⊥) → RefusesJob (andThen a c) → a ≡ Passed
-before-then Passed c other f = refl
-before-then (Refused r) c other f = absurd (other f)
+before-then a c other f = past-check JobFaultNumber a c other f .0
 
 pub other-if : (b : Bool) (r : Refusal) (c : Checked) → (JobFaultNumber (number r) → ⊥) → (RefusesJob c → ⊥) →
     RefusesJob (refuseIf b r c) → ⊥
