@@ -1,7 +1,8 @@
-// What `test_tables` and `test_records` share: numbers and bytes printed, digests of bytes, and tables. That a function prints what is said above it, the `stdout`
-// of the programs shows; it is not proved.
+// What `test_tables` and `test_records` share: numbers and bytes printed, digests of bytes, and tables. That a function prints what is said above
+// it, the `stdout` of the programs shows; it is not proved.
 ghost use mathlib.Core.Path.{_≡_};
 ghost use lib.ListN.{length, take, set, replicate};
+ghost use Rattle.test_bytes.specs.Bytes.{digestOf, turnsFrom};
 use libc::STDOUT_FILENO;
 
 // Prints a space and n in decimal.
@@ -17,7 +18,9 @@ pub fn end_line() {
 
 // A number that depends on every byte and its place: from 0 on, for each byte in turn, 257 times the number so far plus the byte plus 1,
 // modulo 1,000,003. So 0 for no byte.
-pub fn digest(out: &[u8]) -> u64 {
+pub fn digest(out: &[u8]) -> u64
+    ensures { λ r. ⌜ r ≡ digestOf (now (out .entry)) ⌝ }
+{
     let mut sum: u64 = 0;
     let mut i = 0;
     while i < out.len() {
@@ -58,7 +61,9 @@ pub fn fill(t: &mut [u8], byte: u8)
 }
 
 // Makes slots 0, 2, 4, .. idle (254), the others asleep (255).
-pub fn alternate(t: &mut [u8]) {
+pub fn alternate(t: &mut [u8])
+    ensures { λ _. ⌜ now (t .exit) ≡ turnsFrom (length (now (t .entry))) 0 ⌝ }
+{
     let mut i = 0;
     while i < t.len() {
         if i % 2 == 0 {

@@ -103,9 +103,9 @@ module _ (h : ℕ) (slots : List ℕ) (long : length slots ≡ h) where
   unfolding recordOf
   bytes-are = refl
 
-  horizon-back : word R ≡ h
+  pub record-horizon : word (recordOf h slots) ≡ h
   unfolding recordOf
-  horizon-back = word-back h
+  record-horizon = word-back h
 
   length-front : length (frontOf h slots) ≡ behindMap h
   length-front = omega (arith, length-map-of slots, ap mapLength long)
@@ -118,18 +118,19 @@ module _ (h : ℕ) (slots : List ℕ) (long : length slots ≡ h) where
 
   slots-back : slotsIn R ≡ awakeOf slots
   slots-back =
-      let e : word R ≡ length (awakeOf slots) = horizon-back ∙ sym long ∙ sym (awake-of-length slots) in
+      let e : word R ≡ length (awakeOf slots) = record-horizon ∙ sym long ∙ sym (awake-of-length slots) in
       ap₂ (λ (n : ℕ) (M : List ℕ). take n (bitsOf M)) e map-back ∙ set-back (awakeOf slots)
 
   rest-back : drop (behindMap (word R)) R ≡ slotBytes slots
   rest-back =
-      ap₂ drop (ap behindMap horizon-back) bytes-are ∙ drop-at (frontOf h slots) (slotBytes slots) (behindMap h) length-front
+      ap₂ drop (ap behindMap record-horizon) bytes-are ∙ drop-at (frontOf h slots) (slotBytes slots) (behindMap h) length-front
 
   count-back : slotByteCount (word R) R ≡ awakeSlots (awakeOf slots)
   count-back = ap (λ (M : List ℕ). total (map ones M)) map-back ∙ ones-of-slots slots
 
-  table-back : tableIn R ≡ slots
-  table-back = ap₂ spread slots-back rest-back ∙ spread-back slots
+  -- whatever the bytes of a table are, its record has it
+  pub record-table : tableIn (recordOf h slots) ≡ slots
+  record-table = ap₂ spread slots-back rest-back ∙ spread-back slots
 
   module _ (small : AreBytes slots) (taken : slotsCheck h slots ≡ Passed) where
     bytes-taken : bytesFrom h 0 slots ≡ Passed
@@ -158,24 +159,18 @@ module _ (h : ℕ) (slots : List ℕ) (long : length slots ≡ h) where
     good-back : GoodRecord R
     good-back =
         record {
-          low = omega (arith, horizon-back, horizon-taken .0);
-          high = omega (arith, horizon-back, horizon-taken .1);
+          low = omega (arith, record-horizon, horizon-taken .0);
+          high = omega (arith, record-horizon, horizon-taken .1);
           clear =
-              let e : word R ≡ length (awakeOf slots) = horizon-back ∙ sym long ∙ sym (awake-of-length slots) in
+              let e : word R ≡ length (awakeOf slots) = record-horizon ∙ sym long ∙ sym (awake-of-length slots) in
               ap₂ (λ (n : ℕ) (M : List ℕ). someBit (drop n (bitsOf M))) e map-back ∙ padding-back (awakeOf slots);
-          whole = omega (arith, length-record h slots, count-back, ap behindMap horizon-back, ap mapLength long);
+          whole = omega (arith, length-record h slots, count-back, ap behindMap record-horizon, ap mapLength long);
           known = known-back;
         }
 
     -- the record of a table that the writer takes passes the reader's checks
     pub record-taken : recordCheck (recordOf h slots) ≡ Passed
     record-taken = record-passes R good-back
-
-    pub record-horizon : word (recordOf h slots) ≡ h
-    record-horizon = horizon-back
-
-    pub record-table : tableIn (recordOf h slots) ≡ slots
-    record-table = table-back
 
 -- A record that is read and written again.
 

@@ -130,12 +130,12 @@ written-is-read h table out after lent filled size answer small w room r =
     let R = recordBytes h table in
     let is : take (size .bytes) after ≡ R = ap (take (size .bytes)) (k .put) ∙ take-at R (drop (length R) out) (size .bytes) (sym (k .long)) in
     let s : Reads R lent answer filled = subst (λ (x : List ℕ). Reads x lent answer filled) is r in
-    let back : word R ≡ h = record-horizon h slots long few taken in
+    let back : word R ≡ h = record-horizon h slots long in
     let passed : readCheck R (length lent) ≡ Passed =
     then-passes (recordCheck R) (lengthCheck (length lent) (word R)) (record-taken h slots long few taken)
     ∙ ap (lengthCheck (length lent)) back ∙ length-passes (length lent) h room in (
       s .same ∙ ap (readAnswer R) passed ∙ ap Read back,
-      s .table ∙ ap (outAfter (tableIn R) lent) passed ∙ ap (λ (x : List ℕ). stored x lent) (record-table h slots long few taken)
+      s .table ∙ ap (outAfter (tableIn R) lent) passed ∙ ap (λ (x : List ℕ). stored x lent) (record-table h slots long)
           ∙ ap (λ (n : ℕ). slots ++ drop n lent) long,
     )
 

@@ -1,0 +1,2 @@
+-- What the functions for test programs give.
+pub mod Bytes
