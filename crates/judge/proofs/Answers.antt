@@ -12,7 +12,7 @@ use Rattle.sched.specs.declared.Checked.the-variants.{Passed, Refused as Faulty
 use Rattle.sched.specs.declared.Refusal.{Refusal}
 use Rattle.judge.specs.declared.Judged.{Judged}
 use Rattle.judge.specs.declared.Judged.the-variants.{Refused}
-use Rattle.judge.specs.Faults.{faultsCheck}
+use Rattle.judge.specs.Faults.{slotFault, faultsCheck}
 use Rattle.judge.specs.Verdict.{accepts, judgeCheck, judged, judgedNumber, judgedValues, Just, Judges}
 use Rattle.judge.specs.Verdict.Laws.{faults-decide}
 use Rattle.judge.specs.Theorems.{accepted-checked, judge-is-just}
@@ -49,4 +49,4 @@ module _ (J : Jobs) (table : List ℕ) where
         answer ≡ accepts (faultsCheck (J .releases) (J .deadlines) (J .volumes) (take (J .horizon) table)) (tableFigures J (take (J .horizon) table)) →
         Judges J table answer
     unfolding faults
-    slots-judged answer f a = judges faults answer (faults-decide J table e f) a
+    slots-judged answer f a = judges faults answer (faults-decide slotFault J table e f) a

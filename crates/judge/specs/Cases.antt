@@ -1,4 +1,4 @@
--- 01, "Plans worked by hand": the third plan as the judge sees it, with its two runs; and a table for each kind of fault, one of them with two at one slot.
+-- 01, "Plans worked by hand": the third plan as the judge sees it, with its two runs; and a table for each kind of fault, two of them with a slot that has two.
 -- Closed cases, so that an edit of a definition is refused here.
 use mathlib.Core.Path.{_≡_, refl}
 use mathlib.Core.List.{[], _∷_}
@@ -11,6 +11,7 @@ use Rattle.sched.specs.declared.Refusal.the-variants.{BadByte, TooOften, OutOfS
 use Rattle.judge.specs.declared.Judged.the-variants.{Accepted, Refused}
 use Rattle.judge.specs.Faults.{slotsFrom, rareFrom, faultsBy}
 use Rattle.judge.specs.Verdict.{judged}
+use Rattle.judge.specs.Theorems.SpanFirst.{judgedBefore}
 use Rattle.sched.specs.Runs.{leading, runListFrom, runList}
 
 pub third-accepted : judged third thirdTable ≡ Accepted (record { energy = 14; awake = 8; runs = 2 })
@@ -25,8 +26,18 @@ third-stretches = refl
 abbrev small : Jobs
 small = jobsOf 3 0 (0 ∷ []) (2 ∷ []) (1 ∷ [])
 
--- slot 2 repeats the job and lies outside its span: 22 comes first
-pub named-twice : judged small (255 ∷ 0 ∷ 0 ∷ []) ≡ Refused (TooOften 2)
+-- slot 2 repeats the job and lies outside its span: 23 comes first
+pub twice-and-outside : judged small (255 ∷ 0 ∷ 0 ∷ []) ≡ Refused (OutOfSpan 2)
+unfolding judged faultsBy slotsFrom rareFrom checkFrom times awakeSlots runsFrom
+twice-and-outside = refl
+
+-- before 02, card 3, the same table was refused with 22
+pub twice-before : judgedBefore small (255 ∷ 0 ∷ 0 ∷ []) ≡ Refused (TooOften 2)
+unfolding faultsBy slotsFrom rareFrom checkFrom times awakeSlots runsFrom
+twice-before = refl
+
+-- the lowest faulty slot is told, although slot 2 has both faults
+pub named-twice : judged small (0 ∷ 0 ∷ 0 ∷ []) ≡ Refused (TooOften 1)
 unfolding judged faultsBy slotsFrom rareFrom checkFrom times awakeSlots runsFrom
 named-twice = refl
 

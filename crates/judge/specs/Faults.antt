@@ -1,5 +1,5 @@
--- 01, "Refused, and where": the faults that the judge looks for in a table, "slots in rising order, at each slot 21, 22, 23; then 24 for the
--- lowest job". The table here is just the H bytes that are judged; n is the number of jobs, and rs, ds, ps are their fields.
+-- 01, "Refused, and where", with 02, card 3: the faults that the judge looks for in a table, "slots in rising order", "at each slot 21, 23, 22",
+-- "then 24 for the lowest job". The table here is just the H bytes that are judged; n is the number of jobs, and rs, ds, ps are their fields.
 use Prim.Native.Nat.{ℕ, zero, suc, _≤_}
 use mathlib.Core.Path.{_≡_}
 use mathlib.Core.Bool.{Bool, not, _&&_, _||_}
@@ -24,13 +24,13 @@ pub record Sized (rs ds ps : List ℕ) : Type 0 where
 abbrev pub SlotCheck : Type 0
 SlotCheck = ℕ → ℕ → ℕ → ℕ → ℕ → Bool → Checked
 
--- the faults at slot t, in their order: r and d are those of the job that the byte names, and `spent` says that earlier slots already
--- named it p times
+-- the first fault at slot t, if it has one, "at each slot 21, 23, 22": r and d are those of the job that the byte names, and `spent` says that
+-- earlier slots already named it p times or more
 abbrev pub slotFault : SlotCheck
 slotFault n r d t byte spent =
     refuseIf (leb n byte && not (eqb byte idle) && not (eqb byte asleep)) (BadByte t)
-    (refuseIf (ltb byte n && spent) (TooOften t)
-    (refuseIf (ltb byte n && (ltb t r || leb d t)) (OutOfSpan t) Passed))
+    (refuseIf (ltb byte n && (ltb t r || leb d t)) (OutOfSpan t)
+    (refuseIf (ltb byte n && spent) (TooOften t) Passed))
 
 -- the byte j stands p times or more in these slots
 abbrev pub spentIn : List ℕ → List ℕ → ℕ → Bool
@@ -55,6 +55,6 @@ unfoldable pub faultsBy : SlotCheck → List ℕ → List ℕ → List ℕ → L
 faultsBy fault rs ds ps table =
     andThen (slotsFrom fault (length table) 0 rs ds ps table) (rareFrom (length rs) 0 (λ j. times j table) ps)
 
--- "slots in rising order, at each slot 21, 22, 23; then 24 for the lowest job"
+-- "slots in rising order", then 24
 abbrev pub faultsCheck : List ℕ → List ℕ → List ℕ → List ℕ → Checked
 faultsCheck = faultsBy slotFault

@@ -25,6 +25,7 @@ use Rattle.judge.specs.Faults.Laws.{slot-refuses-no-job}
 use Rattle.judge.specs.Faults.Feasibility.{faultless-feasible, feasible-faultless}
 use Rattle.judge.specs.Verdict.{accepts, judgeCheck, judged, judgedNumber, judgedValues, Just}
 use Rattle.judge.specs.Verdict.Laws.{faults-decide}
+pub mod SpanFirst
 
 -- a table is accepted only for a list that passes the list checks, and only if it has at least H bytes
 pub accepted-checked : (J : Jobs) (table : List ℕ) → judgedNumber (judged J table) ≡ 0 → Passes J × (J .horizon ≤ length table)
@@ -57,7 +58,7 @@ judge-is-just J table p l =
     let slots = take (J .horizon) table in
     let long = length-take-le (J .horizon) table l in
     subst (λ (c : Checked). Just J slots (accepts c (tableFigures J slots)))
-    (sym (faults-decide J table (passes J .1 p) (length-passes (length table) (J .horizon) l)))
+    (sym (faults-decide slotFault J table (passes J .1 p) (length-passes (length table) (J .horizon) l)))
     (just-check J slots (faultsCheck (J .releases) (J .deadlines) (J .volumes) slots) (faultless-feasible J slots p long)
     (feasible-faultless J slots p long))
 

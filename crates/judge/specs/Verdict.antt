@@ -15,7 +15,7 @@ use Rattle.sched.specs.declared.Checked.the-variants.{Passed, Refused as Faulty
 use Rattle.sched.specs.declared.Figures.{Figures}
 use Rattle.judge.specs.declared.Judged.{Judged}
 use Rattle.judge.specs.declared.Judged.the-variants.{Accepted, Refused}
-use Rattle.judge.specs.Faults.{faultsCheck}
+use Rattle.judge.specs.Faults.{SlotCheck, slotFault, faultsBy, faultsCheck}
 pub mod Laws
 
 -- a table without a fault is told its figures
@@ -23,12 +23,15 @@ abbrev pub accepts : Checked → Figures → Judged
 accepts Passed f = Accepted f
 accepts (Faulty r) f = Refused r
 
--- the list checks, 17 for the table, then the faults of "its first H bytes"
-abbrev pub judgeCheck : Jobs → List ℕ → Checked
-judgeCheck J table =
+-- the list checks, 17 for the table, then the faults of "its first H bytes", each slot by a check
+abbrev pub judgeCheckBy : SlotCheck → Jobs → List ℕ → Checked
+judgeCheckBy fault J table =
     andThen (checkOf J)
     (andThen (lengthCheck (length table) (J .horizon))
-    (faultsCheck (J .releases) (J .deadlines) (J .volumes) (take (J .horizon) table)))
+    (faultsBy fault (J .releases) (J .deadlines) (J .volumes) (take (J .horizon) table)))
+
+abbrev pub judgeCheck : Jobs → List ℕ → Checked
+judgeCheck = judgeCheckBy slotFault
 
 unfoldable pub judged : Jobs → List ℕ → Judged
 judged J table = accepts (judgeCheck J table) (tableFigures J (take (J .horizon) table))
@@ -58,7 +61,7 @@ pub record Judges (J : Jobs) (table : List ℕ) (answer : Judged) : Type 0 where
   pub checked : judgedNumber answer ≡ 0 → Passes J × (J .horizon ≤ length table)
   pub just : Passes J → J .horizon ≤ length table → Just J (take (J .horizon) table) answer
 
--- what is promised of a table of just H bytes, for every list with these fields and this wake cost
+-- what is promised of a table of just H bytes, for every list with this wake cost and a start asleep: its fields are handed in apart
 abbrev pub JudgesSlots : ℕ → List ℕ → List ℕ → List ℕ → List ℕ → Judged → Type 0
 JudgesSlots q rs ds ps slots answer =
     (J : Jobs) → J .wake ≡ q → J .start ≡ false → answer ≡ accepts (faultsCheck rs ds ps slots) (tableFigures J slots)

@@ -37,14 +37,14 @@ fn check_slot(
     if releases.len() <= job {
         return Checked::Refused(Refusal::BadByte(t));
     }
-    if volumes[job] <= named[job] {
-        return Checked::Refused(Refusal::TooOften(t));
-    }
     if t < releases[job] as usize {
         return Checked::Refused(Refusal::OutOfSpan(t));
     }
     if deadlines[job] as usize <= t {
         return Checked::Refused(Refusal::OutOfSpan(t));
+    }
+    if volumes[job] <= named[job] {
+        return Checked::Refused(Refusal::TooOften(t));
     }
     Checked::Passed
 }

@@ -1,6 +1,7 @@
-// What `test_tables` and `test_records` share: numbers and bytes printed, digests of bytes, and tables. That a function prints what is said above
-// it, the `stdout` of the programs shows; it is not proved.
+// What `test_tables`, `test_records` and `test_judge` share: numbers and bytes printed, digests, counts, and tables. That a function prints what is
+// said above it, the `stdout` of the programs shows; it is not proved.
 ghost use mathlib.Core.Path.{_≡_};
+ghost use Prim.Native.Nat.{_+_, _*_, _%_};
 ghost use lib.ListN.{length, take, set, replicate};
 ghost use Rattle.test_bytes.specs.Bytes.{digestOf, turnsFrom};
 use libc::STDOUT_FILENO;
@@ -28,6 +29,27 @@ pub fn digest(out: &[u8]) -> u64
         i += 1;
     }
     sum
+}
+
+// The digest with one number more: as `digest` takes a byte, 257 times the digest plus the number plus 1, modulo 1,000,003.
+pub fn mixed(sum: u64, x: u64) -> u64
+    ensures { λ r. ⌜ r ≡ (sum % 1000003 * 257 + x % 1000003 + 1) % 1000003 ⌝ }
+{
+    (sum % 1000003 * 257 + x % 1000003 + 1) % 1000003
+}
+
+// One more at an index; nothing past the end.
+pub fn count(counts: &mut [u64], at: usize) {
+    if at < counts.len() {
+        counts[at] = std::num::wrapping_add_u64(counts[at], 1);
+    }
+}
+
+// Prints the count at an index; nothing past the end.
+pub fn entry(counts: &[u64], at: usize) {
+    if at < counts.len() {
+        number(counts[at]);
+    }
 }
 
 // Prints a line of all bytes.
@@ -78,6 +100,16 @@ pub fn alternate(t: &mut [u8])
 
 // The first n bytes, or all where there are fewer.
 pub fn first_bytes(s: &[u8], n: usize) -> &[u8]
+    ensures { λ r. ⌜ now r ≡ take n (now (s .entry)) ⌝ }
+{
+    if n <= s.len() {
+        return &s[..n];
+    }
+    s
+}
+
+// The first n entries, or all where there are fewer.
+pub fn first_entries(s: &[u16], n: usize) -> &[u16]
     ensures { λ r. ⌜ now r ≡ take n (now (s .entry)) ⌝ }
 {
     if n <= s.len() {

@@ -1,16 +1,8 @@
 // Answers mixed into a digest.
-ghost use mathlib.Core.Path.{_≡_};
-ghost use Prim.Native.Nat.{_+_, _*_, _%_};
 use record::RecordRead;
 use record::RunFound;
 use sched::Refusal;
-
-// The digest with one number more: as `test_bytes::digest` takes a byte, 257 times the digest plus the number plus 1, modulo 1,000,003.
-pub fn mixed(sum: u64, x: u64) -> u64
-    ensures { λ r. ⌜ r ≡ (sum % 1000003 * 257 + x % 1000003 + 1) % 1000003 ⌝ }
-{
-    (sum % 1000003 * 257 + x % 1000003 + 1) % 1000003
-}
+use test_bytes::mixed;
 
 // The number of an answer, 0 if it is no refusal, and a digest with all of the answer.
 pub struct Answer {

@@ -2,6 +2,8 @@
 use super::mix;
 use super::mix::Answer;
 use super::show;
+use test_bytes::count;
+use test_bytes::entry;
 use test_bytes::number;
 
 // The numbers of the first read, of the second, and of run 0, and the digest.
@@ -36,26 +38,12 @@ pub fn ask(sum: u64, bytes: &[u8], long: &mut [u8], short: &mut [u8]) -> Answers
     }
 }
 
-// One more at an index; nothing past the end.
-fn count(counts: &mut [u64], at: usize) {
-    if at < counts.len() {
-        counts[at] = std::num::wrapping_add_u64(counts[at], 1);
-    }
-}
-
 // Counts the numbers, all below 39: of the first read at the number itself, of the second 40 behind it, of run 0 80 behind it; and at 39 the record.
 pub fn note(counts: &mut [u64], a: Answers) {
     count(counts, 39);
     count(counts, (a.first % 40) as usize);
     count(counts, (a.second % 40) as usize + 40);
     count(counts, (a.run % 40) as usize + 80);
-}
-
-// Prints the count at an index; nothing past the end.
-fn entry(counts: &[u64], at: usize) {
-    if at < counts.len() {
-        number(counts[at]);
-    }
 }
 
 // Prints how often the first read gave 0, 11, 12, 16, 17, 31 and 32.

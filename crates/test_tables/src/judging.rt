@@ -4,16 +4,16 @@ use super::tables;
 use test_faults::Job;
 
 // Judges the first len bytes of t against n equal jobs (at most 65), of which job k is another, and prints the answer.
-fn jobs(h: u16, q: u16, n: usize, job: Job, k: usize, other: Job, t: &[u8], len: usize) {
+pub fn jobs(h: u16, q: u16, n: usize, job: Job, k: usize, other: Job, t: &[u8], len: usize) {
     let rs = tables::field(job.r, k, other.r);
     let ds = tables::field(job.d, k, other.d);
     let ps = tables::field(job.p, k, other.p);
     show::judged(judge::judge(
         h,
         q,
-        tables::first_entries(&rs, n),
-        tables::first_entries(&ds, n),
-        tables::first_entries(&ps, n),
+        test_bytes::first_entries(&rs, n),
+        test_bytes::first_entries(&ds, n),
+        test_bytes::first_entries(&ps, n),
         test_bytes::first_bytes(t, len),
     ));
 }
@@ -31,9 +31,9 @@ fn lengths(a: usize, b: usize, c: usize, t: &[u8]) {
     show::judged(judge::judge(
         10,
         1,
-        tables::first_entries(&rs, a),
-        tables::first_entries(&ds, b),
-        tables::first_entries(&ps, c),
+        test_bytes::first_entries(&rs, a),
+        test_bytes::first_entries(&ds, b),
+        test_bytes::first_entries(&ps, c),
         t,
     ));
 }
@@ -158,7 +158,7 @@ fn named_too_often(t: &mut [u8]) {
     put_and_judge(t, 4095, 63, 64, job);
 }
 
-// 22 comes before 23 at one slot, and the lower slot comes first.
+// 23 comes before 22 at one slot, and the lower slot comes first.
 fn order_of_faults(t: &mut [u8]) {
     test_bytes::fill(t, 0);
     equal(

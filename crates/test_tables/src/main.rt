@@ -1,9 +1,11 @@
 // Tables and records on chosen inputs: the third plan that 01 works by hand, the plan of docs/BYTES.md, each refusal of the judge and of the
-// record writer at its first and last place, bytes behind the horizon, and horizons around the ends of a map byte and of 64 slots.
+// record writer at its first and last place, slots with two faults, bytes behind the horizon, and horizons around the ends of a map byte and of 64
+// slots.
 
 mod show; // show.rt: what a case prints
 mod tables; // tables.rt: tables and lists
 mod judging; // judging.rt: the judge
+mod both; // both.rt: the judge on slots with two faults
 mod recording; // recording.rt: the record writer
 mod horizons; // horizons.rt: both, for horizons of all kinds
 
@@ -59,6 +61,7 @@ fn main() {
     judging::list_faults(&t);
     judging::job_faults(&t);
     judging::table_faults(&mut t);
+    both::faults(&mut t);
     recording::sizes(&mut t, &mut out);
     recording::unknown_bytes(&mut t, &mut out);
     horizons::marks(&mut t, &mut out);

@@ -1,6 +1,6 @@
 // Tables and lists for the cases.
 ghost use mathlib.Core.Path.{_≡_};
-ghost use lib.ListN.{take, set, replicate};
+ghost use lib.ListN.{set, replicate};
 
 // Lets slot i name job i for each i below n, as far as the table goes; n is at most 256. Later slots keep their bytes.
 pub fn count_up(t: &mut [u8], n: usize) {
@@ -9,16 +9,6 @@ pub fn count_up(t: &mut [u8], n: usize) {
         test_bytes::put(t, i, (i % 256) as u8);
         i += 1;
     }
-}
-
-// The first n entries, or all where there are fewer.
-pub fn first_entries(s: &[u16], n: usize) -> &[u16]
-    ensures { λ r. ⌜ now r ≡ take n (now (s .entry)) ⌝ }
-{
-    if n <= s.len() {
-        return &s[..n];
-    }
-    s
 }
 
 // One field of 65 jobs: the same for all but job k; for all where k is 65 or more.

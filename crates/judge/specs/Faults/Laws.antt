@@ -26,27 +26,27 @@ module _ (n r d t byte : ℕ) (spent : Bool) where
   pub unknown-refused : n ≤ byte → (byte ≡ 254 → ⊥) → (byte ≡ 255 → ⊥) → Refused (BadByte t) ≡ slotFault n r d t byte spent
   unknown-refused l a b = simp (le-leb n byte l, ne-eqb byte 254 a, ne-eqb byte 255 b)
 
-  pub spent-refused : byte < n → spent ≡ true → Refused (TooOften t) ≡ slotFault n r d t byte spent
-  spent-refused l s = simp (lt-leb n byte l, lt-ltb byte n l, s)
+  pub early-refused : byte < n → t < r → Refused (OutOfSpan t) ≡ slotFault n r d t byte spent
+  early-refused l e = simp (lt-leb n byte l, lt-ltb byte n l, lt-ltb t r e)
 
-  pub early-refused : byte < n → spent ≡ false → t < r → Refused (OutOfSpan t) ≡ slotFault n r d t byte spent
-  early-refused l s e = simp (lt-leb n byte l, lt-ltb byte n l, s, lt-ltb t r e)
+  pub late-refused : byte < n → r ≤ t → d ≤ t → Refused (OutOfSpan t) ≡ slotFault n r d t byte spent
+  late-refused l e f = simp (lt-leb n byte l, lt-ltb byte n l, le-ltb t r e, le-leb d t f)
 
-  pub late-refused : byte < n → spent ≡ false → r ≤ t → d ≤ t → Refused (OutOfSpan t) ≡ slotFault n r d t byte spent
-  late-refused l s e f = simp (lt-leb n byte l, lt-ltb byte n l, s, le-ltb t r e, le-leb d t f)
+  pub spent-refused : byte < n → r ≤ t → t < d → spent ≡ true → Refused (TooOften t) ≡ slotFault n r d t byte spent
+  spent-refused l e f s = simp (lt-leb n byte l, lt-ltb byte n l, le-ltb t r e, lt-leb d t f, s)
 
-  pub own-passes : byte < n → spent ≡ false → r ≤ t → t < d → Passed ≡ slotFault n r d t byte spent
-  own-passes l s e f = simp (lt-leb n byte l, lt-ltb byte n l, s, le-ltb t r e, lt-leb d t f)
+  pub own-passes : byte < n → r ≤ t → t < d → spent ≡ false → Passed ≡ slotFault n r d t byte spent
+  own-passes l e f s = simp (lt-leb n byte l, lt-ltb byte n l, le-ltb t r e, lt-leb d t f, s)
 
-  -- 21, 22 and 23 are about a slot, not a job
+  -- 21, 23 and 22 are about a slot, not a job
   pub slot-refuses-no-job : RefusesJob (slotFault n r d t byte spent) → ⊥
   slot-refuses-no-job =
-      let span : Bool = ltb byte n && (ltb t r || leb d t) in
-      let last = refuseIf span (OutOfSpan t) Passed in
-      let often = refuseIf (ltb byte n && spent) (TooOften t) last in
-      other-if (leb n byte && not (eqb byte 254) && not (eqb byte 255)) (BadByte t) often (not-job 21 (inr (omega arith, omega arith)))
-      (other-if (ltb byte n && spent) (TooOften t) last (not-job 22 (inr (omega arith, omega arith)))
-      (other-if span (OutOfSpan t) Passed (not-job 23 (inr (omega arith, omega arith))) other-passed))
+      let outside : Bool = ltb byte n && (ltb t r || leb d t) in
+      let often = refuseIf (ltb byte n && spent) (TooOften t) Passed in
+      let span = refuseIf outside (OutOfSpan t) often in
+      other-if (leb n byte && not (eqb byte 254) && not (eqb byte 255)) (BadByte t) span (not-job 21 (inr (omega arith, omega arith)))
+      (other-if outside (OutOfSpan t) often (not-job 23 (inr (omega arith, omega arith)))
+      (other-if (ltb byte n && spent) (TooOften t) Passed (not-job 22 (inr (omega arith, omega arith))) other-passed))
 
 and-false : (a b : Bool) → a && b ≡ false → a ≡ true → b ≡ false
 and-false true b e t = e
@@ -70,13 +70,15 @@ module _ (n r d t byte : ℕ) (spent : Bool) where
 
   pub slot-good : slotFault n r d t byte spent ≡ Passed → GoodSlot n r d t byte spent
   slot-good e =
-      let a = refuse-passed (leb n byte && not (eqb byte 254) && not (eqb byte 255)) (BadByte t) (refuseIf (ltb byte n && spent) (TooOften t) (refuseIf (ltb byte n && (ltb t r || leb d t)) (OutOfSpan t) Passed)) e in
-      let b = refuse-passed (ltb byte n && spent) (TooOften t) (refuseIf (ltb byte n && (ltb t r || leb d t)) (OutOfSpan t) Passed) (a .1) in
-      let c = refuse-passed (ltb byte n && (ltb t r || leb d t)) (OutOfSpan t) Passed (b .1) in
-      let span : byte < n → (ltb t r ≡ false) × (leb d t ≡ false) = λ l. or-false (ltb t r) (leb d t) (and-false (ltb byte n) (ltb t r || leb d t) (c .0) (lt-ltb byte n l)) in
+      let outside : Bool = ltb byte n && (ltb t r || leb d t) in
+      let often = refuseIf (ltb byte n && spent) (TooOften t) Passed in
+      let a = refuse-passed (leb n byte && not (eqb byte 254) && not (eqb byte 255)) (BadByte t) (refuseIf outside (OutOfSpan t) often) e in
+      let b = refuse-passed outside (OutOfSpan t) often (a .1) in
+      let c = refuse-passed (ltb byte n && spent) (TooOften t) Passed (b .1) in
+      let span : byte < n → (ltb t r ≡ false) × (leb d t ≡ false) = λ l. or-false (ltb t r) (leb d t) (and-false (ltb byte n) (ltb t r || leb d t) (b .0) (lt-ltb byte n l)) in
       record {
         known = known-byte (a .0);
-        unspent = λ l. and-false (ltb byte n) spent (b .0) (lt-ltb byte n l);
+        unspent = λ l. and-false (ltb byte n) spent (c .0) (lt-ltb byte n l);
         released = λ l. ltb-false t r (span l .0);
         before = λ l. leb-false d t (span l .1);
       }
@@ -85,6 +87,6 @@ module _ (n r d t byte : ℕ) (spent : Bool) where
   good-passes few g = go (g .known)
     where
       go : (byte < n) ⊎ ((byte ≡ 254) ⊎ (byte ≡ 255)) → slotFault n r d t byte spent ≡ Passed
-      go (inl l) = sym (own-passes n r d t byte spent l (g .unspent l) (g .released l) (g .before l))
+      go (inl l) = sym (own-passes n r d t byte spent l (g .released l) (g .before l) (g .unspent l))
       go (inr (inl e)) = sym (idle-passes n r d t byte spent few e)
       go (inr (inr e)) = sym (asleep-passes n r d t byte spent few e)

@@ -11,8 +11,8 @@ use Rattle.sched.specs.declared.Checked.the-variants.{Passed, Refused as Faulty
 use Rattle.sched.specs.declared.Refusal.{Refusal}
 use Rattle.sched.specs.declared.Figures.{Figures}
 use Rattle.judge.specs.declared.Judged.the-variants.{Accepted, Refused}
-use Rattle.judge.specs.Faults.{Sized, faultsCheck}
-use Rattle.judge.specs.Verdict.{accepts, judgeCheck}
+use Rattle.judge.specs.Faults.{SlotCheck, Sized, faultsBy}
+use Rattle.judge.specs.Verdict.{accepts, judgeCheckBy}
 
 -- a table of just H bytes
 pub faulty-slots : (check : Checked) (f : Figures) (r : Refusal) → check ≡ Faulty r → Refused r ≡ accepts check f
@@ -22,10 +22,10 @@ pub faultless-slots : (check : Checked) (f g : Figures) → check ≡ Passed →
 faultless-slots check f g e h = ap Accepted h ∙ sym (ap (λ (c : Checked). accepts c g) e)
 
 -- where the list passes its checks and the table is long enough, the faults decide
-pub faults-decide : (J : Jobs) (table : List ℕ) → checkOf J ≡ Passed → lengthCheck (length table) (J .horizon) ≡ Passed →
-    judgeCheck J table ≡ faultsCheck (J .releases) (J .deadlines) (J .volumes) (take (J .horizon) table)
-faults-decide J table e f =
-    let faults = faultsCheck (J .releases) (J .deadlines) (J .volumes) (take (J .horizon) table) in
+pub faults-decide : (fault : SlotCheck) (J : Jobs) (table : List ℕ) → checkOf J ≡ Passed → lengthCheck (length table) (J .horizon) ≡ Passed →
+    judgeCheckBy fault J table ≡ faultsBy fault (J .releases) (J .deadlines) (J .volumes) (take (J .horizon) table)
+faults-decide fault J table e f =
+    let faults = faultsBy fault (J .releases) (J .deadlines) (J .volumes) (take (J .horizon) table) in
     let long = lengthCheck (length table) (J .horizon) in
     then-passes (checkOf J) (andThen long faults) e ∙ then-passes long faults f
 
