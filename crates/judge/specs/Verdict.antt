@@ -61,7 +61,8 @@ pub record Judges (J : Jobs) (table : List ℕ) (answer : Judged) : Type 0 where
   pub checked : judgedNumber answer ≡ 0 → Passes J × (J .horizon ≤ length table)
   pub just : Passes J → J .horizon ≤ length table → Just J (take (J .horizon) table) answer
 
--- what is promised of a table of just H bytes, for every list with this wake cost and a start asleep: its fields are handed in apart
+-- what is promised of a table of just H bytes, for every J with this wake cost and a start asleep: the jobs' fields are rs, ds and ps, and J's own do not
+-- matter
 abbrev pub JudgesSlots : ℕ → List ℕ → List ℕ → List ℕ → List ℕ → Judged → Type 0
 JudgesSlots q rs ds ps slots answer =
     (J : Jobs) → J .wake ≡ q → J .start ≡ false → answer ≡ accepts (faultsCheck rs ds ps slots) (tableFigures J slots)

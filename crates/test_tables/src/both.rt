@@ -1,4 +1,4 @@
-// Slots that name a job once more than its volume and outside its span: alone, and with a slot behind or before them that has one fault.
+// Slots that name a job once more than its volume and outside its span: alone, and with a slot behind or before them that has one fault or both.
 use super::judging;
 use test_faults::Job;
 
