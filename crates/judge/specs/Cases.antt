@@ -1,5 +1,5 @@
--- 01, "Plans worked by hand": the third plan as the judge sees it, with its two runs; and a table for each kind of fault, two of them with a slot that has two.
--- Closed cases, so that an edit of a definition is refused here.
+-- 01, "Plans worked by hand": the third plan as the judge sees it, with its two runs; and a table for each kind of fault, two of them with a slot
+-- that has two. Closed cases, so that an edit of a definition is refused here.
 use mathlib.Core.Path.{_≡_, refl}
 use mathlib.Core.List.{[], _∷_}
 use Rattle.sched.specs.Jobs.{Jobs, jobsOf}

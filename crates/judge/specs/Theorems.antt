@@ -1,5 +1,6 @@
 -- What the judge is worth. For a list that passes the list checks and a table of at least H bytes: it accepts exactly the tables that are
--- feasible in their first H bytes, and tells their energy, awake slots and runs. For every list and table: which jobs it refuses. What card 3 of 02 changed: `SpanFirst`.
+-- feasible in their first H bytes, and tells their energy, awake slots and runs. For every list and table: which jobs it refuses. What card 3 of
+-- 02 changed: `SpanFirst`.
 use Prim.Native.Nat.{ℕ, zero, suc, _≤_}
 use mathlib.Core.Path.{_≡_, refl, sym, ap, subst, _∙_}
 use mathlib.Core.List.{List}

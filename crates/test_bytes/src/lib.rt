@@ -1,8 +1,8 @@
 // What `test_tables`, `test_records` and `test_judge` share: numbers and bytes printed, digests, counts, and tables. That a function prints what is
 // said above it, the `stdout` of the programs shows; it is not proved.
 ghost use mathlib.Core.Path.{_≡_};
-ghost use Prim.Native.Nat.{_+_, _*_, _%_};
-ghost use lib.ListN.{length, take, set, replicate};
+ghost use Prim.Native.Nat.{_+_, _*_, _%_, _^_};
+ghost use lib.ListN.{length, getD, take, set, replicate};
 ghost use Rattle.test_bytes.specs.Bytes.{digestOf, turnsFrom};
 use libc::STDOUT_FILENO;
 
@@ -39,7 +39,9 @@ pub fn mixed(sum: u64, x: u64) -> u64
 }
 
 // One more at an index; nothing past the end.
-pub fn count(counts: &mut [u64], at: usize) {
+pub fn count(counts: &mut [u64], at: usize)
+    ensures { λ _. ⌜ now (counts .exit) ≡ set (now (counts .entry)) at ((getD (now (counts .entry)) at 0 + 1) % 2 ^ 64) ⌝ }
+{
     if at < counts.len() {
         counts[at] = std::num::wrapping_add_u64(counts[at], 1);
     }

@@ -1,0 +1,2 @@
+-- What the functions for jobs and tables by number give.
+pub mod Small
