@@ -1,14 +1,13 @@
 -- The fields of an entry where their bits stand, and the ways out of the checks of an entry.
-use Prim.Native.Nat.{ℕ, _+_, _*_, _≤_, _<_}
+use Prim.Native.Nat.{ℕ, _+_, _*_, _<_}
 use mathlib.Core.Path.{_≡_, refl, sym, ap, _∙_}
 use mathlib.Core.Bool.{Bool, true, false, _&&_}
 use mathlib.Core.List.{List}
 use native.Mathlib.Nat.{add-zero}
 use native.Mathlib.Omega.{arith}
-use borrow.Author.Tests.{lt-ltb}
 use lib.ListN.{length, getD, drop}
 use lib.Seq.{getD-drop}
-use lib.Dec.{eqb}
+use lib.Dec.{ltb, eqb}
 use Rattle.sched.specs.TwoBytes.{word}
 use Rattle.sched.specs.Checks.{andThen, jobCheck}
 use Rattle.sched.specs.Checks.Laws.{then-fails, then-passes}
@@ -17,20 +16,15 @@ use Rattle.sched.specs.declared.Refusal.the-variants.{Truncated, Redundant}
 use Rattle.sched.specs.declared.Checked.{Checked}
 use Rattle.sched.specs.declared.Checked.the-variants.{Passed, Refused as Faulty}
 use Rattle.joblist.specs.Bytes.{width, absentRelease, absentDeadline, absentVolume, hasRelease}
-use Rattle.joblist.specs.Bytes.{hasDeadline, hasVolume, releaseAt, deadlineAt, volumeAt, entryLength}
+use Rattle.joblist.specs.Bytes.{hasDeadline, hasVolume, releaseAt, deadlineAt, volumeAt}
 use Rattle.joblist.specs.Entries.{entryMap, entrySize, valueIf, redundant, knownMaps}
 use Rattle.joblist.specs.Entries.{mapCheck, wholeCheck, redundancyCheck, faultCheck, entryCheck}
 use Rattle.joblist.specs.Parts.{FoundAt, fieldsOf, entryOf, jobPart}
-use Rattle.joblist.specs.Laws.Entry.{whole-passes}
+use Rattle.joblist.specs.Laws.Maps.{length-is}
 use Rattle.joblist.specs.declared.entry.Found.{Found}
 use Rattle.joblist.specs.declared.entry.Fields.{Fields}
 use Rattle.joblist.specs.declared.entry.Entry.{Entry}
 use Rattle.joblist.specs.declared.entry.Entry.the-variants.{Read, Refused}
-
--- the length of an entry, from its bits and their widths
-pub size-is : (map : ℕ) {w₁ w₂ w₃ : ℕ} {a b c : Bool} → a ≡ hasRelease map → b ≡ hasDeadline map → c ≡ hasVolume map →
-    w₁ ≡ width a → w₂ ≡ width b → w₃ ≡ width c → 1 + w₁ + w₂ + w₃ ≡ entryLength map
-size-is map r d p e f g = rw (e, f, g, r, d, p)
 
 pub word-at : (bs : List ℕ) (at : ℕ) → getD bs at 0 + 256 * getD bs (at + 1) 0 ≡ word (drop at bs)
 word-at bs at = simp (getD-drop, add-zero)
@@ -85,11 +79,12 @@ module _ (h at : ℕ) (bs : List ℕ) where
   unfolding redundancyCheck
   volume-refused a b c = rw (b .next, a .tested, b .tested, c .tested)
 
-  pub fields-read : {r d p : Found} → First bs r false → Second h bs d false → Third bs p false →
+  pub fields-read : {r d p : Found} → entryMap bs < knownMaps → First bs r false → Second h bs d false → Third bs p false →
       Read (record { release = r .value; deadline = d .value; volume = p .value; size = p .next }) ≡ fields
   unfolding redundancyCheck
-  fields-read a b c =
-      ap Read (λ i. record { release = a .value i; deadline = b .value i; volume = c .value i; size = c .next i })
+  fields-read known a b c =
+      let size = c .next ∙ sym (length-is (entryMap bs) known) in
+      ap Read (λ i. record { release = a .value i; deadline = b .value i; volume = c .value i; size = size i })
       ∙ rw (a .tested, b .tested, c .tested)
 
 -- what was told of an entry
@@ -137,17 +132,13 @@ module _ (h n j at : ℕ) (bs : List ℕ) (map : Checked) (m : map ≡ mapCheck 
   map-refused r e =
       ap (λ (c : Checked). entryOf c h bs) (sym (then-fails (mapCheck knownMaps n at bs) (andThen whole (jobPart h j at bs)) r (sym m ∙ e)))
 
-  module _ (e : map ≡ Passed) (size : ℕ) (s : size ≡ entrySize bs) where
+  module _ (e : map ≡ Passed) (cut : Bool) (c : cut ≡ ltb (length bs) (entrySize bs)) where
     map-passes : entryCheck jobCheck h n j at bs ≡ andThen whole (jobPart h j at bs)
     unfolding entryCheck
     map-passes = then-passes (mapCheck knownMaps n at bs) (andThen whole (jobPart h j at bs)) (sym m ∙ e)
 
-    pub field-missing : length bs < size → Refused (Truncated n) ≡ answer
-    field-missing l =
-        let w : whole ≡ Faulty (Truncated n) = rw (lt-ltb (length bs) (entrySize bs) (omega arith)) in
-        ap (λ (c : Checked). entryOf c h bs) (sym (map-passes ∙ then-fails whole (jobPart h j at bs) (Truncated n) w))
+    pub field-missing : cut ≡ true → Refused (Truncated n) ≡ answer
+    field-missing t = sym (rw (map-passes, ← c, t))
 
-    pub job-answers : (job : Entry) → size ≤ length bs → job ≡ entryOf (jobPart h j at bs) h bs → job ≡ answer
-    job-answers job l f =
-        let w = whole-passes (entrySize bs) n bs (omega arith) in
-        f ∙ ap (λ (c : Checked). entryOf c h bs) (sym (map-passes ∙ then-passes whole (jobPart h j at bs) w))
+    pub job-answers : (job : Entry) → cut ≡ false → job ≡ entryOf (jobPart h j at bs) h bs → job ≡ answer
+    job-answers job t f = f ∙ sym (rw (map-passes, ← c, t))

@@ -1,7 +1,7 @@
 -- The bytes of a list, stored one part after the other.
 use Prim.Native.Nat.{ℕ, _+_, _≤_, _<_, _%_, _/_}
 use mathlib.Core.Path.{_≡_, refl, ap, _∙_, sym}
-use mathlib.Core.Bool.{Bool, true, false}
+use mathlib.Core.Bool.{Bool}
 use mathlib.Core.List.{List, [], _∷_, _++_}
 use native.Mathlib.Nat.{add-zero}
 use native.Mathlib.Numerals.{add-one}
@@ -16,14 +16,11 @@ use Rattle.sched.specs.Buffers.Laws.{sets-append, put-length}
 use Rattle.joblist.specs.Bytes.{headerLength, countByte, absentRelease, absentDeadline, absentVolume, stands}
 use Rattle.sched.specs.Bits.{bit}
 use Rattle.sched.specs.Bits.Laws.{bit-small}
-use Rattle.joblist.specs.Bytes.{mapByte, bytesIf, entryBytes, entriesBytes, spelling}
+use Rattle.joblist.specs.Bytes.{bytesIf, jobMap, entryBytes, entriesBytes, spelling}
 use Rattle.joblist.specs.Parts.{EqualLists}
+use Rattle.joblist.specs.Laws.Maps.{length-small, entry-by-map}
 
 -- Lengths
-
-pub field-small : (b : Bool) (x : ℕ) → length (bytesIf b x) ≤ 2
-field-small true x = omega arith
-field-small false x = omega arith
 
 pub bit-fits : (b : Bool) (x : ℕ) → x ≡ bit b → x ≤ 1
 bit-fits b x e = rw e (bit-small b)
@@ -35,11 +32,7 @@ unfolding entryBytes
 entry-length h r d p = simp length-append (omega arith)
 
 pub entry-small : (h r d p : ℕ) → length (entryBytes h r d p) ≤ 7
-entry-small h r d p =
-    let first = field-small (stands absentRelease r) r in
-    let second = field-small (stands (absentDeadline h) d) d in
-    let third = field-small (stands absentVolume p) p in
-    omega (arith, entry-length h r d p)
+entry-small h r d p = rw (entry-by-map h r d p) (length-small (jobMap h r d p))
 
 -- Entries, job by job
 
@@ -85,7 +78,7 @@ put-both out out₁ out₂ xs ys at next end f g =
     }
 
 pub put-entry : (h r d p : ℕ) (out out₁ out₂ out₃ : List ℕ) (map at n₁ n₂ n₃ : ℕ) →
-    map ≡ mapByte (stands absentRelease r) (stands (absentDeadline h) d) (stands absentVolume p) →
+    map ≡ jobMap h r d p →
     PutAt (set out at map) (at + 1) (bytesIf (stands absentRelease r) r) n₁ out₁ → PutAt out₁ n₁ (bytesIf (stands (absentDeadline h) d) d) n₂ out₂ →
     PutAt out₂ n₂ (bytesIf (stands absentVolume p) p) n₃ out₃ → PutAt out at (entryBytes h r d p) n₃ out₃
 unfolding entryBytes

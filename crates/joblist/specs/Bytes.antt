@@ -1,5 +1,5 @@
 -- 01, "Job list bytes": the header, map bytes and the fields behind them, and the one spelling of a list.
-use Prim.Native.Nat.{ℕ, _+_, _*_, _/_, _%_}
+use Prim.Native.Nat.{ℕ, zero, suc, _+_, _*_, _/_, _%_}
 use mathlib.Core.Bool.{Bool, true, false, not}
 use mathlib.Core.List.{List, [], _∷_, _++_}
 use lib.ListN.{getD, drop}
@@ -72,9 +72,18 @@ deadlineAt m = releaseAt + width (hasRelease m)
 abbrev pub volumeAt : ℕ → ℕ
 volumeAt m = deadlineAt m + width (hasDeadline m)
 
--- the length of an entry, by its map byte: 1 to 7
+-- The length of an entry, by its map byte. Card 4 of 02: "With the map byte, maps 0 to 7 take 1, 3, 3, 5, 3, 5, 5 and 7 bytes". `suc` stands as often
+-- before `zero` as the map says. A byte in which one of bits 3 to 7 stands is refused before its length counts.
 abbrev pub entryLength : ℕ → ℕ
-entryLength m = volumeAt m + width (hasVolume m)
+entryLength zero = 1
+entryLength (suc zero) = 3
+entryLength (suc (suc zero)) = 3
+entryLength (suc (suc (suc zero))) = 5
+entryLength (suc (suc (suc (suc zero)))) = 3
+entryLength (suc (suc (suc (suc (suc zero))))) = 5
+entryLength (suc (suc (suc (suc (suc (suc zero)))))) = 5
+entryLength (suc (suc (suc (suc (suc (suc (suc zero))))))) = 7
+entryLength (suc (suc (suc (suc (suc (suc (suc (suc m)))))))) = 0
 
 -- The entry of a job
 
@@ -86,12 +95,14 @@ abbrev pub bytesIf : Bool → ℕ → List ℕ
 bytesIf true x = twoBytes x
 bytesIf false x = []
 
+-- the map byte of a job
+abbrev pub jobMap : ℕ → ℕ → ℕ → ℕ → ℕ
+jobMap h r d p = mapByte (stands absentRelease r) (stands (absentDeadline h) d) (stands absentVolume p)
+
 unfoldable pub entryBytes : ℕ → ℕ → ℕ → ℕ → List ℕ
 entryBytes h r d p =
-    let a = stands absentRelease r in
-    let b = stands (absentDeadline h) d in
-    let c = stands absentVolume p in
-    mapByte a b c ∷ bytesIf a r ++ (bytesIf b d ++ bytesIf c p)
+    jobMap h r d p
+    ∷ bytesIf (stands absentRelease r) r ++ (bytesIf (stands (absentDeadline h) d) d ++ bytesIf (stands absentVolume p) p)
 
 -- the entries of the jobs, in list order
 unfoldable pub entriesBytes : ℕ → List ℕ → List ℕ → List ℕ → List ℕ

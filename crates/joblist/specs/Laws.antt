@@ -1,4 +1,5 @@
 -- What is proved of the definitions.
+pub mod Maps
 pub mod Entry
 pub mod Walk
 pub mod Input

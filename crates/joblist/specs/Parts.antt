@@ -8,7 +8,7 @@ use Rattle.sched.specs.Checks.{andThen, jobCheck}
 use Rattle.sched.specs.declared.Checked.{Checked}
 use Rattle.sched.specs.declared.Checked.the-variants.{Passed, Refused as Faulty}
 use Rattle.joblist.specs.Bytes.{headerLength, headerHorizon, headerWake, headerCount, width, entriesBytes}
-use Rattle.joblist.specs.Entries.{entrySize, valueIf, releaseOf, deadlineOf, volumeOf, redundancyCheck, faultCheck, column}
+use Rattle.joblist.specs.Entries.{entryMap, entrySize, knownMaps, valueIf, releaseOf, deadlineOf, volumeOf, redundancyCheck, faultCheck, column}
 use Rattle.joblist.specs.Reading.{headerCheck, lentCheck, behindHeader}
 use Rattle.joblist.specs.declared.ListHeader.{ListHeader}
 use Rattle.joblist.specs.declared.entry.Found.{Found}
@@ -31,8 +31,9 @@ pub record FoundAt (stands : Bool) (absent at : ℕ) (bs : List ℕ) (f : Found)
   pub value : f .value ≡ valueIf stands absent (drop at bs)
   pub next : f .next ≡ at + width stands
 
--- a map byte and all bytes of its fields, at an offset of the input
+-- a known map byte and all bytes of its fields, at an offset of the input
 pub record WholeEntry (at : ℕ) (bs : List ℕ) : Type 0 where
+  pub known : entryMap bs < knownMaps
   pub whole : entrySize bs ≤ length bs
   pub fits : at + length bs < 2 ^ 64
 

@@ -32,6 +32,9 @@ pub mod Longest
 pub mod FaultyField
 pub mod OnlyNumber
 pub mod TellsJob
+pub mod EightMaps
+pub mod LaidOut
+pub mod LengthsAsBefore
 
 -- the reading that hands over just the list J, past which the lent lists keep their entries
 abbrev pub handsOver : Jobs → List ℕ → List ℕ → List ℕ → Reading

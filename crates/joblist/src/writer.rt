@@ -8,10 +8,11 @@ ghost use lib.Seq.{sets};
 ghost use Rattle.sched.specs.Jobs.{jobsOf};
 ghost use Rattle.sched.specs.TwoBytes.{twoBytes};
 ghost use Rattle.sched.specs.Bits.{bit};
-ghost use Rattle.joblist.specs.Bytes.{headerLength, countByte, absentRelease, absentDeadline, absentVolume, mapByte, stands};
+ghost use Rattle.joblist.specs.Bytes.{headerLength, countByte, jobMap, stands};
 ghost use Rattle.joblist.specs.Bytes.{bytesIf, entryBytes, entriesBytes, spelling};
 ghost use Rattle.sched.specs.Buffers.{PutAt};
 ghost use Rattle.joblist.specs.Parts.{EqualLists, Puttable};
+use super::entry;
 
 fn bit(stands: bool) -> u8
     ensures { λ r. ⌜ r ≡ bit stands ⌝ }
@@ -19,17 +20,16 @@ fn bit(stands: bool) -> u8
     if stands { 1 } else { 0 }
 }
 
-// The bytes that a field takes.
-fn field_size(absent: u16, x: u16) -> usize
-    ensures { λ r. ⌜ r ≡ length (bytesIf (stands absent x) x) ⌝ }
+fn map_byte(h: u16, r: u16, d: u16, p: u16) -> u8
+    ensures { λ m. ⌜ m ≡ jobMap h r d p ⌝ }
 {
-    if x == absent { 0 } else { 2 }
+    bit(r != 0) + 2 * bit(d != h) + 4 * bit(p != 1)
 }
 
 fn entry_size(h: u16, r: u16, d: u16, p: u16) -> usize
     ensures { λ n. ⌜ n ≡ length (entryBytes h r d p) ⌝ }
 {
-    1 + field_size(0, r) + field_size(h, d) + field_size(1, p)
+    entry::entry_length(map_byte(h, r, d, p))
 }
 
 // The length of the bytes of a list.
@@ -57,12 +57,6 @@ fn put_field(absent: u16, x: u16, at: usize, out: &mut [u8]) -> usize
     out[at] = (x % 256) as u8;
     out[at + 1] = (x / 256) as u8;
     at + 2
-}
-
-fn map_byte(h: u16, r: u16, d: u16, p: u16) -> u8
-    ensures { λ m. ⌜ m ≡ mapByte (stands absentRelease r) (stands (absentDeadline h) d) (stands absentVolume p) ⌝ }
-{
-    bit(r != 0) + 2 * bit(d != h) + 4 * bit(p != 1)
 }
 
 // The entry of a job, and the offset behind it.

@@ -1,4 +1,4 @@
-// What `test_tables`, `test_records` and `test_judge` share: numbers and bytes printed, digests, counts, and tables. That a function prints what is
+// What the test programs share: numbers and bytes printed, digests, counts, numbers by chance, parts of lists, and tables. That a function prints what is
 // said above it, the `stdout` of the programs shows; it is not proved.
 ghost use mathlib.Core.Path.{_≡_};
 ghost use Prim.Native.Nat.{_+_, _*_, _%_, _^_};
@@ -6,15 +6,20 @@ ghost use lib.ListN.{length, getD, take, set, replicate};
 ghost use Rattle.test_bytes.specs.Bytes.{digestOf, turnsFrom};
 use libc::STDOUT_FILENO;
 
+// Prints the bytes as they are.
+pub fn text(s: &[u8]) {
+    io::write_all(STDOUT_FILENO, s);
+}
+
 // Prints a space and n in decimal.
 pub fn number(n: u64) {
-    io::write_all(STDOUT_FILENO, b" ");
+    text(b" ");
     io::print_decimal(STDOUT_FILENO, n);
 }
 
 // Ends the line.
 pub fn end_line() {
-    io::write_all(STDOUT_FILENO, b"\n");
+    text(b"\n");
 }
 
 // A number that depends on every byte and its place: from 0 on, for each byte in turn, 257 times the number so far plus the byte plus 1,
@@ -36,6 +41,13 @@ pub fn mixed(sum: u64, x: u64) -> u64
     ensures { λ r. ⌜ r ≡ (sum % 1000003 * 257 + x % 1000003 + 1) % 1000003 ⌝ }
 {
     (sum % 1000003 * 257 + x % 1000003 + 1) % 1000003
+}
+
+// The next state of a linear congruence; its low bits are better left alone.
+pub fn next(state: u64) -> u64
+    ensures { λ r. ⌜ r ≡ (state % 2147483648 * 1103515245 + 12345) % 2147483648 ⌝ }
+{
+    (state % 2147483648 * 1103515245 + 12345) % 2147483648
 }
 
 // One more at an index; nothing past the end.
@@ -98,6 +110,20 @@ pub fn alternate(t: &mut [u8])
             i += 1;
         }
     }
+}
+
+// The byte at an index, 0 past the end.
+pub fn byte(s: &[u8], i: usize) -> u8
+    ensures { λ r. ⌜ r ≡ getD (now (s .entry)) i 0 ⌝ }
+{
+    if i < s.len() { s[i] } else { 0 }
+}
+
+// The entry at an index, 0 past the end.
+pub fn at(s: &[u16], i: usize) -> u16
+    ensures { λ r. ⌜ r ≡ getD (now (s .entry)) i 0 ⌝ }
+{
+    if i < s.len() { s[i] } else { 0 }
 }
 
 // The first n bytes, or all where there are fewer.

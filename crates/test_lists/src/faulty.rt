@@ -1,17 +1,18 @@
 // Faulty jobs, read and written: each of the seven at the first, a middle and the last place, and two faulty jobs in one list.
 use super::longest;
-use super::show;
+use test_bytes::first_bytes;
+use test_bytes::put;
 use test_faults::Job;
 
 // Puts a job into the bytes of the longest list, as job j of its 64; each field stands there, low byte first.
 fn put_job(bytes: &mut [u8], j: usize, job: Job) {
     let at = 5 + 7 * (j % 64);
-    show::put(bytes, at + 1, job.r as usize);
-    show::put(bytes, at + 2, (job.r / 256) as usize);
-    show::put(bytes, at + 3, job.d as usize);
-    show::put(bytes, at + 4, (job.d / 256) as usize);
-    show::put(bytes, at + 5, job.p as usize);
-    show::put(bytes, at + 6, (job.p / 256) as usize);
+    put(bytes, at + 1, (job.r % 256) as u8);
+    put(bytes, at + 2, (job.r / 256) as u8);
+    put(bytes, at + 3, (job.d % 256) as u8);
+    put(bytes, at + 4, (job.d / 256) as u8);
+    put(bytes, at + 5, (job.p % 256) as u8);
+    put(bytes, at + 6, (job.p / 256) as u8);
 }
 
 // Reads the longest list with two other jobs in it, j and i.
@@ -19,7 +20,7 @@ fn read_others(j: usize, job: Job, i: usize, other: Job) {
     let mut bytes = longest::LONGEST;
     put_job(&mut bytes, j, job);
     put_job(&mut bytes, i, other);
-    super::read(show::part(&bytes, 453));
+    super::read(first_bytes(&bytes, 453));
 }
 
 // Writes 64 jobs (1, 2, 65535), of which j and i are others, to a buffer that is one byte short.

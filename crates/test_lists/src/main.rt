@@ -1,11 +1,12 @@
 // Job lists read and written: the list worked out in hex, each refusal at its first and its last place, the longest list, the list in hex
 // with one byte changed, and faulty jobs. `stdout` was worked out apart from this program.
-ghost use mathlib.Core.Path.{_≡_};
 ghost use Prim.Native.Nat.{_≤_};
-ghost use lib.ListN.{take};
 use joblist::ListHeader;
 use joblist::ListRead;
 use joblist::ListWritten;
+use test_bytes::first_bytes;
+use test_bytes::first_entries;
+use test_bytes::put;
 
 mod show; // show.rt: what a case prints
 mod longest; // longest.rt: the longest list
@@ -17,19 +18,12 @@ const EXAMPLE: [u8; 16] = [10, 0, 3, 0, 3, 2, 3, 0, 5, 8, 0, 2, 0, 4, 5, 0];
 // Reads into the three lists, and prints a line: `read`, then what `write_back` prints of a list that was read, or the refusal and
 // whether each list is as it was lent.
 fn read_into(bytes: &[u8], releases: &mut [u16], deadlines: &mut [u16], volumes: &mut [u16]) {
-    show::text(b"read");
+    test_bytes::text(b"read");
     match joblist::read(bytes, releases, deadlines, volumes) {
         ListRead::Read(list) => write_back(list, bytes, releases, deadlines, volumes),
         ListRead::Refused(r) => show::not_read(r, releases, deadlines, volumes),
     }
-    show::end();
-}
-
-// The first n entries of a list, or all where it is shorter.
-fn first(list: &[u16], n: usize) -> &[u16]
-    ensures { λ r. ⌜ now r ≡ take n (now (list .entry)) ⌝ }
-{
-    if n <= list.len() { &list[..n] } else { list }
+    test_bytes::end_line();
 }
 
 // Prints a list that was read, whether writing it gives the bytes read, and for each lent list whether its entries past the count were kept.
@@ -45,9 +39,9 @@ fn write_back(
         list.h,
         list.q,
         bytes,
-        first(releases, list.count),
-        first(deadlines, list.count),
-        first(volumes, list.count),
+        first_entries(releases, list.count),
+        first_entries(deadlines, list.count),
+        first_entries(volumes, list.count),
     );
     show::all_kept(list.count, releases, deadlines, volumes);
 }
@@ -83,13 +77,13 @@ fn read(bytes: &[u8]) {
 
 // Writes a list to `out`, and prints a line: `write`, then the length or the refusal, then what `out` holds.
 fn write(h: u16, q: u16, releases: &[u16], deadlines: &[u16], volumes: &[u16], out: &mut [u8]) {
-    show::text(b"write");
+    test_bytes::text(b"write");
     match joblist::write(h, q, releases, deadlines, volumes, out) {
         ListWritten::Written(n) => show::written(n),
         ListWritten::Refused(r) => show::refused(r),
     }
     show::bytes(out);
-    show::end();
+    test_bytes::end_line();
 }
 
 // 11 and 12 at their first places.
@@ -134,10 +128,10 @@ fn first_jobs() {
 }
 
 // Reads the first n bytes of the longest list and one byte more, with the byte at one offset changed.
-fn long_with(at: usize, value: usize, n: usize) {
+fn long_with(at: usize, value: u8, n: usize) {
     let mut bytes = longest::LONGEST;
-    show::put(&mut bytes, at, value);
-    read(show::part(&bytes, n));
+    put(&mut bytes, at, value);
+    read(first_bytes(&bytes, n));
 }
 
 // The same refusals at their last places.
@@ -178,7 +172,14 @@ fn write_example(h: u16, deadlines: usize, volumes: usize, out: &mut [u8]) {
     let rs = [0u16, 8, 0];
     let ds = [3u16, 10, 10];
     let ps = [1u16, 2, 5];
-    write(h, 3, &rs, first(&ds, deadlines), first(&ps, volumes), out);
+    write(
+        h,
+        3,
+        &rs,
+        first_entries(&ds, deadlines),
+        first_entries(&ps, volumes),
+        out,
+    );
 }
 
 // The writer's refusals, in their order, and buffers that are just long enough and one byte short.
@@ -199,7 +200,14 @@ fn write_few(n: usize, h: u16, q: u16, r: u16, d: u16, p: u16, out: &mut [u8]) {
     let rs = [r];
     let ds = [d];
     let ps = [p];
-    write(h, q, first(&rs, n), first(&ds, n), first(&ps, n), out);
+    write(
+        h,
+        q,
+        first_entries(&rs, n),
+        first_entries(&ds, n),
+        first_entries(&ps, n),
+        out,
+    );
 }
 
 // No job, one job, and 17 at its first place.
@@ -225,7 +233,7 @@ fn write_64(first: u16, last: u16, out: &mut [u8]) {
 // Writes a list of 65 releases and deadlines and so many volumes, all 1.
 fn write_65(h: u16, volumes: usize, out: &mut [u8]) {
     let many = [1u16; 65];
-    write(h, 0, &many, &many, first(&many, volumes), out);
+    write(h, 0, &many, &many, first_entries(&many, volumes), out);
 }
 
 // 64 and 65 jobs.
@@ -242,15 +250,15 @@ fn long_writer() {
 }
 
 // Reads the list in hex with one byte changed.
-fn example_with(at: usize, value: usize) {
+fn example_with(at: usize, value: u8) {
     let mut bytes = EXAMPLE;
-    show::put(&mut bytes, at, value);
+    put(&mut bytes, at, value);
     read(&bytes);
 }
 
 // Reads it with one byte changed to each of ten values.
 fn damage(at: usize) {
-    let values = [0usize, 1, 2, 3, 4, 7, 8, 10, 64, 255];
+    let values = [0u8, 1, 2, 3, 4, 7, 8, 10, 64, 255];
     let mut i = 0;
     while i < 10 {
         example_with(at, values[i]);

@@ -1,4 +1,5 @@
 // The lists of the comparison, each made from a number.
+use test_bytes::next;
 use test_exhaustive::Small;
 use test_exhaustive::digit;
 ghost use mathlib.Core.Path.{_≡_};
@@ -65,13 +66,6 @@ fn valid_job(l: Small, j: u32) -> bool {
 // Horizon and volumes of such a list are at least 1 anyway.
 pub fn valid(l: Small) -> bool {
     valid_job(l, 0) && valid_job(l, 1) && valid_job(l, 2) && valid_job(l, 3)
-}
-
-// The numbers behind the drawn lists: a linear congruence, used without its low bits.
-fn next(seed: u64) -> u64
-    ensures { λ r. ⌜ r ≡ (seed % 2147483648 * 1103515245 + 12345) % 2147483648 ⌝ }
-{
-    (seed % 2147483648 * 1103515245 + 12345) % 2147483648
 }
 
 // A number below m: the rest by m of bits 16 to 30 of the seed.

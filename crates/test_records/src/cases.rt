@@ -5,7 +5,7 @@ use test_bytes::number;
 // Fills the table with 170 and reads the record into it; prints ` read`, the answer, and the digest of the table then.
 pub fn read(bytes: &[u8], table: &mut [u8]) {
     test_bytes::fill(table, 170);
-    show::text(b" read");
+    test_bytes::text(b" read");
     show::read(record::read(bytes, table));
     number(test_bytes::digest(table));
 }
@@ -19,7 +19,7 @@ pub fn read_within(bytes: &[u8], table: &mut [u8], n: usize) {
 
 // Prints ` run`, k, the answer for run k, and length and digest of its part of the record.
 pub fn run(bytes: &[u8], k: usize) {
-    show::text(b" run");
+    test_bytes::text(b" run");
     number(k as u64);
     show::found(record::find_run(bytes, k));
     let part = record::run_bytes(bytes, k);
@@ -29,7 +29,7 @@ pub fn run(bytes: &[u8], k: usize) {
 
 // Prints a line: the word, what `read` prints of the table, then of its first `short` bytes, and what `run` prints of run 0 and run 2^64 - 1.
 pub fn tried(word: &[u8], bytes: &[u8], table: &mut [u8], short: usize) {
-    show::text(word);
+    test_bytes::text(word);
     read(bytes, table);
     read_within(bytes, table, short);
     run(bytes, 0);

@@ -1,7 +1,6 @@
 // Damaged copies of one record.
 ghost use mathlib.Core.Path.{_≡_};
 ghost use Prim.Native.Nat.{_+_, _*_, _%_, _<_};
-use super::show;
 use super::stretches;
 use super::tally;
 
@@ -90,7 +89,7 @@ fn copies(counts: &mut [u64]) -> u64 {
 // Prints a line: `damaged`, and what `tally::show` prints.
 pub fn each() {
     let mut counts = [0u64; 120];
-    show::text(b"damaged");
+    test_bytes::text(b"damaged");
     let sum = copies(&mut counts);
     tally::show(&counts, sum);
 }

@@ -1,5 +1,4 @@
 // All records of one map byte with horizon 1 to 4 and up to five bytes behind the map, each of six values.
-use super::show;
 use super::tally;
 use test_bytes::number;
 
@@ -82,7 +81,7 @@ fn maps(h: u8, n: usize, counts: &mut [u64]) -> u64 {
 // Prints a line: `all`, h, n, and what `tally::show` prints.
 fn line(h: u8, n: usize) {
     let mut counts = [0u64; 120];
-    show::text(b"all");
+    test_bytes::text(b"all");
     number(h as u64);
     number(n as u64);
     let sum = maps(h, n, &mut counts);

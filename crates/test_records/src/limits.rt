@@ -1,11 +1,10 @@
 // Tables that are just long enough or not, and numbers of runs that just are or are not.
 use super::cases;
-use super::show;
 use super::worked;
 
 // Prints a line: `lengths` and what `cases::read` prints of the first n bytes of the table.
 fn length(bytes: &[u8], table: &mut [u8], n: usize) {
-    show::text(b"lengths");
+    test_bytes::text(b"lengths");
     cases::read_within(bytes, table, n);
     test_bytes::end_line();
 }
@@ -30,7 +29,7 @@ pub fn tables() {
 
 // Prints a line: `number` and what `cases::run` prints of run k.
 fn number(bytes: &[u8], k: usize) {
-    show::text(b"number");
+    test_bytes::text(b"number");
     cases::run(bytes, k);
     test_bytes::end_line();
 }

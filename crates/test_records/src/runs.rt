@@ -1,7 +1,6 @@
 // All runs of a record.
 use super::cases;
 use super::mix;
-use super::show;
 use test_bytes::number;
 
 // How many runs there are, and a digest of the answers for all of them.
@@ -27,7 +26,7 @@ fn count_runs(bytes: &[u8]) -> Counted {
 
 // Prints a line: `runs`, h, how many and their digest, and what `cases::run` prints of the next one.
 pub fn each(h: usize, bytes: &[u8]) {
-    show::text(b"runs");
+    test_bytes::text(b"runs");
     number(h as u64);
     let r = count_runs(bytes);
     number(r.count as u64);

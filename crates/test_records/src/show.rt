@@ -1,15 +1,9 @@
 // Answers as text. That a function prints what is said above it, `stdout` shows; it is not proved.
-use libc::STDOUT_FILENO;
 use record::RecordRead;
 use record::RecordWritten;
 use record::RunFound;
 use sched::Refusal;
 use test_bytes::number;
-
-// Prints the bytes as they are.
-pub fn text(s: &[u8]) {
-    io::write_all(STDOUT_FILENO, s);
-}
 
 // Prints the refusal's number and place.
 fn refusal(r: Refusal) {

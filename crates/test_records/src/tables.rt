@@ -17,7 +17,7 @@ fn length(answer: RecordWritten) -> usize {
 
 // Writes the record of the first h slots to out, and prints a line: `record`, h, the answer, and the digest of the record. Gives its length.
 fn write(h: u16, t: &[u8], out: &mut [u8]) -> usize {
-    show::text(b"record");
+    test_bytes::text(b"record");
     number(h as u64);
     let answer = record::write(h, t, out);
     show::written(answer);
@@ -32,7 +32,7 @@ fn write(h: u16, t: &[u8], out: &mut [u8]) -> usize {
 fn read(h: usize, t: &[u8], bytes: &[u8], back: &mut [u8])
     requires { ⌜ 0 < h ⌝ }
 {
-    show::text(b"table");
+    test_bytes::text(b"table");
     number(h as u64);
     cases::read(bytes, back);
     number(test_bytes::digest(test_bytes::first_bytes(t, h)));

@@ -1,7 +1,6 @@
 // The answers for many records: how often each number came, and a digest of all.
 use super::mix;
 use super::mix::Answer;
-use super::show;
 use test_bytes::count;
 use test_bytes::entry;
 use test_bytes::number;

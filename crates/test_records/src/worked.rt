@@ -1,6 +1,5 @@
 // The record that 01 works by hand, and the record of docs/BYTES.md.
 use super::cases;
-use super::show;
 
 // The first: 12 bytes, and two more that are no part of it.
 pub const PAPER: [u8; 14] = [10, 0, 63, 3, 0, 2, 2, 2, 2, 2, 1, 1, 0, 255];
@@ -10,19 +9,19 @@ pub const PAGE: [u8; 11] = [12, 0, 192, 7, 0, 2, 254, 1, 1, 0, 255];
 
 // Prints two lines: `worked` and what `cases::read` prints; `table` and the bytes of the table.
 fn read(bytes: &[u8], table: &mut [u8]) {
-    show::text(b"worked");
+    test_bytes::text(b"worked");
     cases::read(bytes, table);
     test_bytes::end_line();
-    show::text(b"table");
+    test_bytes::text(b"table");
     test_bytes::bytes(table);
 }
 
 // Prints two lines: `worked` and what `cases::run` prints of run k; `part` and the bytes of the run.
 fn run(bytes: &[u8], k: usize) {
-    show::text(b"worked");
+    test_bytes::text(b"worked");
     cases::run(bytes, k);
     test_bytes::end_line();
-    show::text(b"part");
+    test_bytes::text(b"part");
     test_bytes::bytes(record::run_bytes(bytes, k));
 }
 

@@ -1,5 +1,5 @@
--- Fields and map bytes, written and read back, and read and written again.
-use Prim.Native.Nat.{ℕ, zero, suc, _≤_, _<_}
+-- Fields, written and read back with their map byte, and read and written again.
+use Prim.Native.Nat.{ℕ, _≤_, _<_}
 use mathlib.Core.Path.{_≡_, refl, ap, sym}
 use mathlib.Core.Bool.{Bool, true, false, not}
 use mathlib.Core.List.{List, [], _∷_, _++_}
@@ -65,25 +65,14 @@ field-fresh absent x rest = go (eqb x absent) refl
 
 -- Read and written again
 
-pub bits-again : (m : ℕ) → m < 8 → mapByte (hasRelease m) (hasDeadline m) (hasVolume m) ≡ m
-bits-again zero l = refl
-bits-again (suc zero) l = refl
-bits-again (suc (suc zero)) l = refl
-bits-again (suc (suc (suc zero))) l = refl
-bits-again (suc (suc (suc (suc zero)))) l = refl
-bits-again (suc (suc (suc (suc (suc zero))))) l = refl
-bits-again (suc (suc (suc (suc (suc (suc zero)))))) l = refl
-bits-again (suc (suc (suc (suc (suc (suc (suc zero))))))) l = refl
-bits-again (suc (suc (suc (suc (suc (suc (suc (suc m)))))))) l = absurd (omega arith)
+-- a field that does not stand with its absent value stands again just where it stood
+pub stands-again : (b : Bool) (absent : ℕ) (bs : List ℕ) → redundant b absent bs ≡ false → stands absent (valueIf b absent bs) ≡ b
+stands-again false absent bs e = rw (eq-eqb absent absent refl)
+stands-again true absent bs e = ap not e
 
-pub record Again (b : Bool) (absent : ℕ) (bs : List ℕ) : Type 0 where
-  pub stands-again : stands absent (valueIf b absent bs) ≡ b
-  pub bytes-again : bytesIf b (valueIf b absent bs) ++ drop (width b) bs ≡ bs
-
-pub field-again : (b : Bool) (absent : ℕ) (bs : List ℕ) → width b ≤ length bs → AreBytes bs → redundant b absent bs ≡ false → Again b absent bs
-field-again false absent bs w small e =
-    record { stands-again = rw (eq-eqb absent absent refl); bytes-again = refl }
-field-again true absent [] w small e = absurd (omega arith)
-field-again true absent (x ∷ []) w small e = absurd (omega arith)
-field-again true absent (x ∷ y ∷ bs) w small e =
-    record { stands-again = ap not e; bytes-again = ap (λ (l : List ℕ). l ++ bs) (word-again x y (small 0)) }
+pub bytes-again : (b : Bool) (absent : ℕ) (bs : List ℕ) → width b ≤ length bs → AreBytes bs →
+    bytesIf b (valueIf b absent bs) ++ drop (width b) bs ≡ bs
+bytes-again false absent bs w small = refl
+bytes-again true absent [] w small = absurd (omega arith)
+bytes-again true absent (x ∷ []) w small = absurd (omega arith)
+bytes-again true absent (x ∷ y ∷ bs) w small = ap (λ (l : List ℕ). l ++ bs) (word-again x y (small 0))

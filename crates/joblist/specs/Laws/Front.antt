@@ -11,8 +11,8 @@ use lib.ListN.{length, take, drop, length-append, length-take, length-drop, take
 use lib.Seq.{take-all, drop-append-le}
 use Rattle.sched.specs.TwoBytes.{word}
 use Rattle.sched.specs.Checks.{JobCheck, andThen, jobCheck}
-use Rattle.sched.specs.declared.Checked.{Checked}
-use Rattle.sched.specs.declared.Checked.the-variants.{Passed, Refused}
+use Rattle.sched.specs.Checks.Laws.{then-same}
+use Rattle.sched.specs.declared.Checked.the-variants.{Passed}
 use Rattle.joblist.specs.Bytes.{headerLength, headerHorizon, countIn, headerCount, absentRelease, absentDeadline, absentVolume}
 use Rattle.joblist.specs.Bytes.{hasRelease, hasDeadline, hasVolume, releaseAt, deadlineAt, volumeAt}
 use Rattle.joblist.specs.Entries.{EntryCheck, entryMap, entrySize, valueIf, knownMaps, mapCheck}
@@ -120,10 +120,6 @@ module _ (front more : List ℕ) where
         rw (map-check-front n n′ at, whole-front n n′, redundancy-front h at, fault-front check h j)
 
 -- The whole input
-
-then-same : (a c c′ : Checked) → (a ≡ Passed → c ≡ c′) → andThen a c ≡ andThen a c′
-then-same Passed c c′ f = f refl
-then-same (Refused r) c c′ f = refl
 
 module _ (front more : List ℕ) (l : 453 < length front) where
   horizon-front : headerHorizon (front ++ more) ≡ headerHorizon front

@@ -20,6 +20,7 @@ use Rattle.joblist.specs.Bytes.{hasRelease, hasDeadline, hasVolume, rele
 use Rattle.joblist.specs.Entries.{EntryCheck, entryMap, entrySize, releaseOf, deadlineOf, volumeOf, knownMaps, mapCheck}
 use Rattle.joblist.specs.Entries.{wholeCheck, redundant, fieldCheck, redundancyCheck, faultCheck, entryCheck, entriesCheck}
 use Rattle.joblist.specs.Reading.{headerCheck, lentCheck, behindHeader, readCheck}
+use Rattle.joblist.specs.Laws.Maps.{length-small}
 use Rattle.joblist.specs.Laws.Entry.{entry-passed}
 use Rattle.joblist.specs.Laws.Input.{header-passed}
 
@@ -28,9 +29,7 @@ width-small true = omega arith
 width-small false = omega arith
 
 pub entry-short : (bs : List ℕ) → entrySize bs ≤ 7
-entry-short bs =
-    let map = entryMap bs in
-    omega (arith, width-small (hasRelease map), width-small (hasDeadline map), width-small (hasVolume map))
+entry-short bs = length-small (entryMap bs)
 
 -- the place of a refusal, if there is one, is at most m
 abbrev pub PlaceWithin : ℕ → Checked → Type 0

@@ -12,11 +12,12 @@ use Rattle.sched.specs.Checks.{GoodJob, jobCheck}
 use Rattle.sched.specs.Checks.Laws.{then-passes, job-good, job-passes}
 use Rattle.sched.specs.declared.Checked.the-variants.{Passed}
 use Rattle.joblist.specs.Bytes.{absentRelease, absentDeadline, absentVolume, hasRelease, hasDeadline, hasVolume, mapByte}
-use Rattle.joblist.specs.Bytes.{width, deadlineAt, volumeAt, stands, bytesIf, entryBytes, entriesBytes}
-use Rattle.joblist.specs.Entries.{entrySize, releaseOf, deadlineOf, volumeOf, entryCheck, entriesCheck, column}
+use Rattle.joblist.specs.Bytes.{width, releaseAt, deadlineAt, volumeAt, stands, bytesIf, jobMap, entryBytes, entriesBytes}
+use Rattle.joblist.specs.Entries.{entryMap, entrySize, releaseOf, deadlineOf, volumeOf, entryCheck, entriesCheck, column}
+use Rattle.joblist.specs.Laws.Maps.{bits-again, length-is}
 use Rattle.joblist.specs.Laws.Walk.{entries-first, entries-none}
 use Rattle.joblist.specs.Laws.Entry.{GoodEntry, entry-passed, entry-passes}
-use Rattle.joblist.specs.Laws.Fields.{layout, layout-read, value-back, field-fresh, bits-again, field-again}
+use Rattle.joblist.specs.Laws.Fields.{layout, layout-read, value-back, field-fresh, stands-again, bytes-again}
 
 -- what reading the entry of a job finds, whatever follows it
 pub record EntryBack (h r d p : ℕ) (bs rest : List ℕ) : Type 0 where
@@ -101,6 +102,26 @@ glue : (m r d p : ℕ) (a b c a′ b′ c′ : Bool) (bs bs₁ bs₂ bs₃ : Lis
     bytesIf b d ++ bs₂ ≡ bs₁ → bytesIf c p ++ bs₃ ≡ bs₂ → layout a′ b′ c′ r d p bs₃ ≡ m ∷ bs
 glue m r d p a b c a′ b′ c′ bs bs₁ bs₂ bs₃ ea eb ec em e₁ e₂ e₃ = rw (ea, eb, ec, em, e₃, e₂, e₁)
 
+-- what stood of an entry that passes stands again in the entry of the job read from it
+record StandsAgain (h : ℕ) (bs : List ℕ) : Type 0 where
+  pub release : stands absentRelease (releaseOf bs) ≡ hasRelease (entryMap bs)
+  pub deadline : stands (absentDeadline h) (deadlineOf h bs) ≡ hasDeadline (entryMap bs)
+  pub volume : stands absentVolume (volumeOf bs) ≡ hasVolume (entryMap bs)
+
+entry-stands : (h j : ℕ) (bs : List ℕ) → GoodEntry jobCheck h j bs → StandsAgain h bs
+entry-stands h j bs g =
+    let m = entryMap bs in
+    record {
+      release = stands-again (hasRelease m) absentRelease (drop releaseAt bs) (g .fields .release);
+      deadline = stands-again (hasDeadline m) (absentDeadline h) (drop (deadlineAt m) bs) (g .fields .deadline);
+      volume = stands-again (hasVolume m) absentVolume (drop (volumeAt m) bs) (g .fields .volume);
+    }
+
+pub map-again : (h j : ℕ) (bs : List ℕ) → GoodEntry jobCheck h j bs → jobMap h (releaseOf bs) (deadlineOf h bs) (volumeOf bs) ≡ entryMap bs
+map-again h j bs g =
+    let s = entry-stands h j bs g in
+    rw (s .release, s .deadline, s .volume) (bits-again (entryMap bs) (g .map .known))
+
 -- an entry that passes is the entry of the job read from it
 pub entry-again : (h j : ℕ) (bs : List ℕ) → AreBytes bs → GoodEntry jobCheck h j bs →
     entryBytes h (releaseOf bs) (deadlineOf h bs) (volumeOf bs) ++ drop (entrySize bs) bs ≡ bs
@@ -111,19 +132,21 @@ entry-again h j (m ∷ bs) small g =
     let a : Bool = hasRelease m in
     let b : Bool = hasDeadline m in
     let c : Bool = hasVolume m in
-    let r = field-again a absentRelease bs (omega (arith, g .whole)) (are-bytes-drop 1 l small) (g .fields .release) in
+    let s = entry-stands h j l g in
+    let long = length-is m (g .map .known) in
+    let r = bytes-again a absentRelease bs (omega (arith, long, g .whole)) (are-bytes-drop 1 l small) in
     let d =
-    field-again b (absentDeadline h) (drop (deadlineAt m) l) (omega (arith, g .whole, length-drop (deadlineAt m) l))
-    (are-bytes-drop (deadlineAt m) l small) (g .fields .deadline) in
+    bytes-again b (absentDeadline h) (drop (deadlineAt m) l) (omega (arith, long, g .whole, length-drop (deadlineAt m) l))
+    (are-bytes-drop (deadlineAt m) l small) in
     let p =
-    field-again c absentVolume (drop (volumeAt m) l) (omega (arith, g .whole, length-drop (volumeAt m) l))
-    (are-bytes-drop (volumeAt m) l small) (g .fields .volume) in
+    bytes-again c absentVolume (drop (volumeAt m) l) (omega (arith, long, g .whole, length-drop (volumeAt m) l))
+    (are-bytes-drop (volumeAt m) l small) in
     rw (append-assoc, append-assoc)
     (glue m (releaseOf l) (deadlineOf h l) (volumeOf l) a b c _ _ _ bs (drop (deadlineAt m) l) (drop (volumeAt m) l) (drop (entrySize l) l)
-    (r .stands-again) (d .stands-again) (p .stands-again) (bits-again m (g .map .known))
-    (rw (drop-drop (width a) 1 l) at (r .bytes-again))
-    (rw (drop-drop (width b) (deadlineAt m) l) at (d .bytes-again))
-    (rw (drop-drop (width c) (volumeAt m) l) at (p .bytes-again)))
+    (s .release) (s .deadline) (s .volume) (bits-again m (g .map .known))
+    (rw (drop-drop (width a) 1 l) at r)
+    (rw (drop-drop (width b) (deadlineAt m) l) at d)
+    (rw (drop-drop (width c) (volumeAt m) l, ← long) at p))
 
 -- job i of the k jobs read
 abbrev GoodAt : ℕ → ℕ → List ℕ → ℕ → Type 0

@@ -69,6 +69,11 @@ then-fails a c r e = ap (λ (x : Checked). andThen x c) e
 pub then-passes : (a c : Checked) → a ≡ Passed → andThen a c ≡ c
 then-passes a c e = ap (λ (x : Checked). andThen x c) e
 
+-- two checks that agree where the one in front passes
+pub then-same : (a c c′ : Checked) → (a ≡ Passed → c ≡ c′) → andThen a c ≡ andThen a c′
+then-same Passed c c′ f = f refl
+then-same (Refused r) c c′ f = refl
+
 -- numbers P that the check in front cannot give: it has passed, and what follows decides
 pub past-refusal : (P : ℕ → Type 0) (b : Bool) (r : Refusal) (c : Checked) → (P (number r) → ⊥) → P (checkedNumber (refuseIf b r c)) → (b ≡ false) × (refuseIf b r c ≡ c)
 past-refusal P true r c other e = absurd (other e)

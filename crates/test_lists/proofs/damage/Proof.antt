@@ -13,9 +13,6 @@ abbrev μ-loop : tie.MeasureT-loop
 loop-holds : tie.Need-loop-holds Inv-loop μ-loop
 loop-holds c = search needs
 
-mul-example-with : tie.Need-mul-example-with Inv-loop μ-loop
-mul-example-with c = search needs
-
 array-read-example-with : tie.Need-array-read-example-with Inv-loop μ-loop
 array-read-example-with c = search needs
 
@@ -41,7 +38,6 @@ damage-spec =
     Inv-loop
     μ-loop
     loop-holds
-    mul-example-with
     array-read-example-with
     example-with-requires
     add-i

@@ -2,10 +2,20 @@
 use borrow.Author.Needs.{needs}
 use mathlib.Core.Path.{sym, _∙_}
 use native.Mathlib.Omega.{arith}
-use Rattle.joblist.specs.Laws.Entry.{map-passed}
+use borrow.Author.Tests.{ltb-false}
+use lib.ListN.{length}
+use Rattle.joblist.specs.Entries.{knownMaps, entrySize}
+use Rattle.joblist.specs.Laws.Entry.{GoodMap, map-passed}
 use Rattle.joblist.proofs.Fields.{map-refused, field-missing, job-answers}
 use Rattle.joblist.proofs.entry.read.Statement.{statement}
 use Rattle.joblist.proofs.entry.read.Tie as tie
+
+-- where the map passes
+good-map : (c : tie.After-enum-told) → GoodMap knownMaps (c .before .before .before .before .args .bytes .now)
+good-map c =
+    let map = c .before .before in
+    let a = map .before .before .args in
+    map-passed knownMaps (a .total) (a .at) (a .bytes .now) (sym (map .check-map .ensures) ∙ c .enum-told .given .1)
 
 check-map-requires : tie.Need-check-map-requires
 check-map-requires c κs = search needs
@@ -13,37 +23,38 @@ check-map-requires c κs = search needs
 enum-told : tie.Need-enum-told
 enum-told c = search needs
 
-shared-slice-read-size : tie.Need-shared-slice-read-size
-shared-slice-read-size c =
-    let map = c .before .before .before in
-    let a = map .before .before .args in
-    omega (arith, map-passed _ (a .total) (a .at) (a .bytes .now) (sym (map .check-map .ensures) ∙ c .before .enum-told .given .1) .some)
-
-size-requires : tie.Need-size-requires
-size-requires c κs = search needs
+is-cut-requires : tie.Need-is-cut-requires
+is-cut-requires c κs = good-map c .some
 
 returns : tie.Need-returns
 returns c =
-    let told = c .before .before .before in
+    let told = c .before .before in
     let map = told .before .before in
     let a = map .before .before .args in
     field-missing (a .h) (a .total) (a .job) (a .at) (a .bytes .now) (map .check-map .result) (map .check-map .ensures) (told .enum-told .given .1)
-    (c .before .size .result) (c .before .size .ensures) (c .if1 .taken)
+    (c .before .is-cut .result) (c .before .is-cut .ensures) (c .if1 .taken)
 
 read-job-requires : tie.Need-read-job-requires
-read-job-requires c κs = search needs
+read-job-requires c κs =
+    let told = c .before .before in
+    let a = told .before .before .before .before .args in
+    record {
+      known = good-map told .known;
+      whole = ltb-false (length (a .bytes .now)) (entrySize (a .bytes .now)) (sym (c .before .is-cut .ensures) ∙ c .if1 .left);
+      fits = omega arith;
+    }
 
 enum-known-r : tie.Need-enum-known-r
 enum-known-r c = search needs
 
 returns-2 : tie.Need-returns-2
 returns-2 c =
-    let size = c .before .before in
-    let told = size .before .before in
+    let cut = c .before .before in
+    let told = cut .before in
     let map = told .before .before in
     let a = map .before .before .args in
     job-answers (a .h) (a .total) (a .job) (a .at) (a .bytes .now) (map .check-map .result) (map .check-map .ensures) (told .enum-told .given .1)
-    (size .size .result) (size .size .ensures) (c .read-job .result) (c .before .if1 .left) (c .read-job .ensures)
+    (cut .is-cut .result) (cut .is-cut .ensures) (c .read-job .result) (c .before .if1 .left) (c .read-job .ensures)
 
 returns-3 : tie.Need-returns-3
 returns-3 c =
@@ -57,8 +68,7 @@ read-spec =
     (tie.spec
     check-map-requires
     enum-told
-    shared-slice-read-size
-    size-requires
+    is-cut-requires
     returns
     read-job-requires
     enum-known-r

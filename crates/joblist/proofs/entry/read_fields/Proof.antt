@@ -3,10 +3,20 @@ use borrow.Author.Needs.{needs}
 use mathlib.Core.Path.{_≡_, refl, ap}
 use mathlib.Core.Bool.{Bool, true, false}
 use native.Mathlib.Omega.{arith}
-use Rattle.joblist.specs.Bytes.{width}
+use lib.ListN.{length}
+use Prim.Native.Nat.{_+_, _≤_}
+use Rattle.joblist.specs.Bytes.{hasVolume, width, volumeAt}
+use Rattle.joblist.specs.Entries.{entryMap}
+use Rattle.joblist.specs.Laws.Maps.{length-is}
 use Rattle.joblist.proofs.Fields.{First, Second, Third, field-read, release-refused, deadline-refused, volume-refused, fields-read}
 use Rattle.joblist.proofs.entry.read_fields.Statement.{statement}
 use Rattle.joblist.proofs.entry.read_fields.Tie as tie
+
+-- all three fields are there
+long : (s : tie.Start) →
+    let map = entryMap (s .args .bytes .now) in
+    volumeAt map + width (hasVolume map) ≤ length (s .args .bytes .now)
+long s = omega (arith, length-is (entryMap (s .args .bytes .now)) (s .pre .known), s .pre .whole)
 
 -- the start, seen from the test of each field
 abbrev at-1 : tie.After-is-redundant → tie.Start
@@ -41,19 +51,19 @@ third c test e =
     (c .is-redundant3 .ensures) e
 
 shared-slice-read-map : tie.Need-shared-slice-read-map
-shared-slice-read-map c = search needs
+shared-slice-read-map c = omega (arith, long (c .before .before))
 
 has-release-requires : tie.Need-has-release-requires
 has-release-requires c κs = search needs
 
 field-requires : tie.Need-field-requires
-field-requires c κs = omega (arith, c .before .before .before .pre .whole, ap width (c .has-release .ensures))
+field-requires c κs = omega (arith, long (c .before .before .before), ap width (c .has-release .ensures))
 
 is-redundant-requires : tie.Need-is-redundant-requires
 is-redundant-requires c κs = search needs
 
 add-t14 : tie.Need-add-t14
-add-t14 c = search needs
+add-t14 c = let s = at-1 (c .before) in omega (arith, s .pre .fits, long s)
 
 returns : tie.Need-returns
 returns c =
@@ -64,7 +74,7 @@ has-deadline-requires : tie.Need-has-deadline-requires
 has-deadline-requires c κs = search needs
 
 field-requires-2 : tie.Need-field-requires-2
-field-requires-2 c κs = omega (arith, at-1 (c .before .before) .pre .whole, first-left (c .before) .next, ap width (c .has-deadline .ensures))
+field-requires-2 c κs = omega (arith, long (at-1 (c .before .before)), first-left (c .before) .next, ap width (c .has-deadline .ensures))
 
 is-redundant-requires-2 : tie.Need-is-redundant-requires-2
 is-redundant-requires-2 c κs = search needs
@@ -72,7 +82,7 @@ is-redundant-requires-2 c κs = search needs
 add-t17 : tie.Need-add-t17
 add-t17 c =
     let test = c .before .before in
-    omega (arith, at-2 test .pre, first-left (test .before .before .before) .next)
+    omega (arith, at-2 test .pre .fits, long (at-2 test), first-left (test .before .before .before) .next)
 
 returns-2 : tie.Need-returns-2
 returns-2 c =
@@ -84,7 +94,7 @@ has-volume-requires : tie.Need-has-volume-requires
 has-volume-requires c κs = search needs
 
 field-requires-3 : tie.Need-field-requires-3
-field-requires-3 c κs = omega (arith, at-2 (c .before .before) .pre .whole, second-left (c .before) .next, ap width (c .has-volume .ensures))
+field-requires-3 c κs = omega (arith, long (at-2 (c .before .before)), second-left (c .before) .next, ap width (c .has-volume .ensures))
 
 is-redundant-requires-3 : tie.Need-is-redundant-requires-3
 is-redundant-requires-3 c κs = search needs
@@ -92,7 +102,7 @@ is-redundant-requires-3 c κs = search needs
 add-t20 : tie.Need-add-t20
 add-t20 c =
     let test = c .before .before in
-    omega (arith, at-3 test .pre, second-left (test .before .before .before) .next)
+    omega (arith, at-3 test .pre .fits, long (at-3 test), second-left (test .before .before .before) .next)
 
 returns-3 : tie.Need-returns-3
 returns-3 c =
@@ -107,7 +117,7 @@ returns-4 c =
     let test = c .before in
     let a = at-3 test .args in
     let left = test .before .before .before in
-    fields-read (a .h) (a .at) (a .bytes .now) (first-left (left .before .before .before .before)) (second-left left)
+    fields-read (a .h) (a .at) (a .bytes .now) (at-3 test .pre .known) (first-left (left .before .before .before .before)) (second-left left)
     (third test false (c .if3 .left))
 
 pub read-fields-spec : {M : Type 1} → statement M

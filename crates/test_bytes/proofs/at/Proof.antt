@@ -1,9 +1,9 @@
--- `show::at` meets its contract: past the end it yields what stands for no entry.
+-- `at` meets its contract: past the end it yields what stands for none.
 use mathlib.Core.Path.{sym}
 use lib.ListN.{List·getD-eq-default}
 use borrow.Author.Needs.{needs}
-use Rattle.test_lists.proofs.show.at.Statement.{statement}
-use Rattle.test_lists.proofs.show.at.Tie as tie
+use Rattle.test_bytes.proofs.at.Statement.{statement}
+use Rattle.test_bytes.proofs.at.Tie as tie
 
 mul-result : tie.Need-mul-result
 mul-result c = search needs
@@ -15,7 +15,7 @@ returns : tie.Need-returns
 returns c = search needs
 
 returns-2 : tie.Need-returns-2
-returns-2 c = sym (List·getD-eq-default (c .before .args .list .now) 0 (c .if1 .left))
+returns-2 c = sym (List·getD-eq-default (c .before .args .s .now) 0 (c .if1 .left))
 
 pub at-spec : {M : Type 1} → statement M
 at-spec = tie.close (tie.spec mul-result shared-slice-read-result returns returns-2)
