@@ -47,9 +47,9 @@ test-of-value : (stands : Bool) (absent x : ℕ) (bs : List ℕ) → x ≡ value
 test-of-value true absent x bs e = rw e
 test-of-value false absent x bs e = refl
 
-pub field-read : {stands has found test : Bool} {place absent at : ℕ} {bs : List ℕ} {f : Found} → has ≡ stands → at ≡ place →
-    FoundAt has absent at bs f → found ≡ (has && eqb (f .value) absent) → found ≡ test → FieldRead stands place absent bs f test
-field-read {has = has} {absent = absent} {at = at} {bs = bs} {f = f} s p v w e =
+pub field-read : {stands has found test : Bool} {place absent at : ℕ} {bs : List ℕ} {f : Found} → has ≡ stands →
+    FoundAt has absent at bs f → at ≡ place → found ≡ (has && eqb (f .value) absent) → found ≡ test → FieldRead stands place absent bs f test
+field-read {has = has} {absent = absent} {at = at} {bs = bs} {f = f} s v p w e =
     rw (← s, ← p)
     record { value = v .value; next = v .next; tested = test-of-value has absent (f .value) (drop at bs) (v .value) ∙ sym w ∙ e }
 

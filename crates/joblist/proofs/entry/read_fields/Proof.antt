@@ -30,7 +30,7 @@ at-3 c = at-2 (c .before .before .before .before)
 
 -- the fields as they were read, and what their tests found
 first : (c : tie.After-is-redundant) (test : Bool) → c .is-redundant .result ≡ test → First (at-1 c .args .bytes .now) (c .before .field .result) test
-first c test e = field-read (c .before .before .has-release .ensures) refl (c .before .field .ensures) (c .is-redundant .ensures) e
+first c test e = field-read (c .before .before .has-release .ensures) (c .before .field .ensures) refl (c .is-redundant .ensures) e
 
 first-left : (c : tie.Else1) → First (at-1 (c .before) .args .bytes .now) (c .before .before .field .result) false
 first-left c = first (c .before) false (c .if1 .left)
@@ -38,7 +38,7 @@ first-left c = first (c .before) false (c .if1 .left)
 second : (c : tie.After-is-redundant2) (test : Bool) → c .is-redundant2 .result ≡ test →
     Second (at-2 c .args .h) (at-2 c .args .bytes .now) (c .before .field2 .result) test
 second c test e =
-    field-read (c .before .before .has-deadline .ensures) (first-left (c .before .before .before) .next) (c .before .field2 .ensures)
+    field-read (c .before .before .has-deadline .ensures) (c .before .field2 .ensures) (omega (arith, first-left (c .before .before .before) .next))
     (c .is-redundant2 .ensures) e
 
 second-left : (c : tie.Else2) → Second (at-2 (c .before) .args .h) (at-2 (c .before) .args .bytes .now) (c .before .before .field2 .result) false
@@ -47,7 +47,7 @@ second-left c = second (c .before) false (c .if2 .left)
 third : (c : tie.After-is-redundant3) (test : Bool) → c .is-redundant3 .result ≡ test →
     Third (at-3 c .args .bytes .now) (c .before .field3 .result) test
 third c test e =
-    field-read (c .before .before .has-volume .ensures) (second-left (c .before .before .before) .next) (c .before .field3 .ensures)
+    field-read (c .before .before .has-volume .ensures) (c .before .field3 .ensures) (omega (arith, second-left (c .before .before .before) .next))
     (c .is-redundant3 .ensures) e
 
 shared-slice-read-map : tie.Need-shared-slice-read-map
