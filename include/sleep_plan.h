@@ -6,6 +6,9 @@
  * gives a plan that serves every job, at a cost of at most the cheapest possible plan's plus the sum of all volumes, or says that no plan
  * exists.
  *
+ * In slots without a job the processor sleeps, except between two slots with jobs that have fewer than q slots between them: there it stays
+ * awake and idle. So no plan with jobs in the same slots costs less.
+ *
  * One call does it all. It uses the three buffers it is given and a little stack: no heap, no file, no clock, no global variable. It may
  * be called from several threads at once, each with its own buffers. It always returns.
  */
@@ -64,8 +67,9 @@ extern "C" {
  *   17, block_len below 16    unchanged                 unchanged
  *
  * Bytes of the table behind the first H, and bytes of the block behind the first 16, are never changed; the list never is.
- * The cost is the number of awake slots plus q times the number of runs. "Added" counts the slots that the planner woke for volume after
- * it had chosen where to be awake at all; it is of interest for comparing plans only.
+ * The cost is the number of awake slots plus q times the number of runs, both as the table has them. "Added" counts the slots that the planner
+ * woke for volume after it had chosen where to be awake at all, and before it settled which slots without a job sleep; it is of interest for
+ * comparing plans only.
  *
  * Checks are made in this order, and the first that fails is told: the block's length (17); the list's header (11, then 12 at 0, then 12
  * at 4); for each job in turn its map byte (11, 13), its fields (11, 14 in the order release, deadline, volume) and their values (25, 15,
@@ -89,7 +93,7 @@ extern "C" {
  *
  * A field that has its absent value must not be there, so each list has just one spelling.
  *
- * A complete example, which prints "cost 14, awake 8, runs 2" and "0 2 2 2 2 2 255 255 1 1":
+ * A complete example, which prints "cost 13, awake 10, runs 1" and "0 2 2 2 2 2 254 254 1 1":
  *
  *   #include <stdio.h>
  *   #include "sleep_plan.h"

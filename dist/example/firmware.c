@@ -65,8 +65,8 @@ static void plan(const struct job *jobs, unsigned count) {
 }
 
 int main(void) {
-  static const struct job good[] = {{"range window", 2, 5, 3}, {"temperature", 6, SLOTS, 1}, {"frame", 12, 14, 2}};
-  static const struct job crowded[] = {{"range window", 2, 5, 3}, {"temperature", 3, 6, 2}, {"frame", 12, 14, 2}};
+  static const struct job good[] = {{"range window", 2, 5, 3}, {"temperature", 6, 8, 1}, {"frame", 12, 14, 2}};
+  static const struct job crowded[] = {{"range window", 2, 5, 3}, {"temperature", 3, 6, 2}, {"frame", 12, SLOTS, 2}};
   static const struct job faulty[] = {{"range window", 2, 5, 3}, {"temperature", 6, SLOTS + 1, 1}};
   plan(good, 3);
   plan(crowded, 3);

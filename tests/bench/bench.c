@@ -17,12 +17,12 @@ static const int sizes[SIZES] = {512, 1024, 2048, 4096};
 static uint32_t seed;
 static int below(int n) { seed = seed * 1664525u + 1013904223u; return (int)((seed >> 8) % (uint32_t)n); }
 
-static uint8_t bytes[512], ours[MAX_H], other[MAX_H], scratch[MAX_H], block[16];
+static uint8_t bytes[512], ours[MAX_H], other[MAX_H], scratch[MAX_H], working[MAX_H], block[16];
 static uint32_t best_block[4], plain_block[4];
 static size_t bytes_len;
 static struct jobs jobs;
 
-/* The bytes of a family's list with h slots, and what *limit* is given of it. */
+/* The bytes of a family's list with h slots, and the list that *limit* is given; its working slots come from the plan (`differs`). */
 static void make(int f, int h) {
   struct list l;
   memset(&l, 0, sizeof l); /* so memset is bound before a call is counted */
@@ -60,7 +60,7 @@ static int place;
 static void call_ours(void) { sleep_plan_in[place](bytes, bytes_len, ours, sizeof ours, block, sizeof block); }
 static void call_best(void) { best_plan_in[place](bytes, bytes_len, other, best_block); }
 static void call_plain(void) { plain_plan(bytes, bytes_len, scratch, plain_block); }
-static void call_limit(void) { limit_fill_in[place](&jobs, ours, scratch); }
+static void call_limit(void) { limit_fill_in[place](&jobs, working, scratch); }
 
 static double now(void) { struct timespec t; clock_gettime(CLOCK_MONOTONIC, &t); return (double)t.tv_sec * 1e6 + (double)t.tv_nsec / 1e3; }
 
@@ -74,11 +74,16 @@ static double least(double so_far, void (*call)(void), int repeats) {
 
 static int differs(void) {
   memset(ours, 255, sizeof ours);
+  memset(working, 255, sizeof working);
   uint32_t number = sleep_plan_in[place](bytes, bytes_len, ours, sizeof ours, block, sizeof block);
   int best = best_plan_in[place](bytes, bytes_len, other, best_block), plain = plain_plan(bytes, bytes_len, scratch, plain_block);
   if ((int)number != best || best != plain) return 1;
   for (int i = 0; i < 16; i++) if (block[i] != (uint8_t)(best_block[i / 4] >> 8 * (i % 4)) || best_block[i / 4] != plain_block[i / 4]) return 1;
-  return number == 0 && (memcmp(ours, other, (size_t)jobs.h) || memcmp(ours, scratch, (size_t)jobs.h));
+  if (number != 0) return 0;
+  if (memcmp(ours, other, (size_t)jobs.h) || memcmp(ours, scratch, (size_t)jobs.h)) return 1;
+  for (int t = 0; t < jobs.h; t++) working[t] = ours[t] < MAX_JOBS ? ours[t] : 255;
+  call_limit();
+  return memcmp(ours, scratch, (size_t)jobs.h) != 0;
 }
 
 /* The deepest stack that a call touches: it runs on a painted stack of its own. */

@@ -9,10 +9,10 @@ enum { FACT_ROOM = 160 };
 /* "10 slots, wake cost 3, 3 jobs with 8 units of work" */
 void fact_list(const struct list *list, char fact[FACT_ROOM]);
 
-/* "energy 14 = 8 awake slots + 2 runs x wake cost 3" */
+/* "energy 13 = 10 awake slots + 1 run x wake cost 3" */
 void fact_energy(const struct source *source, char fact[FACT_ROOM]);
 
-/* "8 slots busy, 0 idle, 2 asleep" */
+/* "8 slots busy, 2 idle, 0 asleep" */
 void fact_slots(const struct source *source, char fact[FACT_ROOM]);
 
 /* "overloaded: slots 2..5 have room for 3 units, the jobs inside need 4" */

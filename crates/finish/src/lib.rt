@@ -18,5 +18,6 @@ pub fn finish(
     ensures { λ r. ⌜ Finished q (now (releases .entry)) (now (deadlines .entry)) (now (volumes .entry)) (now (table .entry)) r (now (table .exit)) ⌝ }
 {
     step4_table::fill(releases, deadlines, volumes, ranks, arrivals, table);
+    step5_sleep::sleep(q, table);
     sched::cost_of(q, table)
 }

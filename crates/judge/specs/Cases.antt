@@ -1,4 +1,4 @@
--- 01, "Plans worked by hand": the third plan as the judge sees it, with its two runs; and a table for each kind of fault, two of them with a slot
+-- 01, "Plans worked by hand", after card 5 of 02: the third plan as the judge sees it, with its one run; and a table for each kind of fault, two of them with a slot
 -- that has two. Closed cases, so that an edit of a definition is refused here.
 use mathlib.Core.Path.{_≡_, refl}
 use mathlib.Core.List.{[], _∷_}
@@ -14,11 +14,11 @@ use Rattle.judge.specs.Verdict.{judged}
 use Rattle.judge.specs.Theorems.SpanFirst.{judgedBefore}
 use Rattle.sched.specs.Runs.{leading, runListFrom, runList}
 
-pub third-accepted : judged third thirdTable ≡ Accepted (record { energy = 14; awake = 8; runs = 2 })
+pub third-accepted : judged third thirdTable ≡ Accepted (record { energy = 13; awake = 10; runs = 1 })
 unfolding judged faultsBy slotsFrom rareFrom checkFrom times awakeSlots runsFrom
 third-accepted = refl
 
-pub third-stretches : runList (awakeOf thirdTable) ≡ record { first = 0; slots = 6 } ∷ record { first = 8; slots = 2 } ∷ []
+pub third-stretches : runList (awakeOf thirdTable) ≡ record { first = 0; slots = 10 } ∷ []
 unfolding runListFrom leading
 third-stretches = refl
 

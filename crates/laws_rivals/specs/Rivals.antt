@@ -10,6 +10,7 @@ use Rattle.sched.specs.Slots.{awakeOf}
 use Rattle.sched.specs.Energy.{energy}
 use Rattle.sched.specs.Feasible.{Feasible}
 use Rattle.sched.specs.Skeleton.{leastSkeleton}
+use Rattle.sched.specs.Sleep.{workingOf}
 use Rattle.sched.specs.Workable.{workable}
 use Rattle.sched.specs.Extension.{woken}
 use Rattle.sched.specs.Outcomes.{Plan}
@@ -49,6 +50,13 @@ WithinLimit J a = (reported : ℕ) → a .reports reported → (rival : List ℕ
 pub record AgainstRivals (J : Jobs) (a : Answered) (table : List ℕ) : Type 0 where
   pub sound : Sound J a table
   pub limit : WithinLimit J a
+
+-- 02, card 5: where an energy is reported, it is that of the table handed back, and no table costs less in which the same slots work as in that one,
+-- whatever its other slots hold. Equal lists of working slots have equal lengths, so these are tables of H bytes.
+abbrev pub CheapestSleep : Jobs → Answered → List ℕ → Type 0
+CheapestSleep J a table =
+    (reported : ℕ) → a .reports reported →
+    (reported ≡ energy J (awakeOf table)) × ((other : List ℕ) → workingOf other ≡ workingOf table → energy J (awakeOf table) ≤ energy J (awakeOf other))
 
 -- the planner's outcome
 

@@ -1,24 +1,29 @@
--- Demand 3 of the plan that 01 defines, what `added` counts, and steps 1 and 3 to their ends.
+-- Demand 3 of the plan that 01 and 02 define, what `added` counts, steps 1 and 3 to their ends, and what step 5 leaves.
 use Prim.Native.Nat.{ℕ, _+_, _-_, _≤_, _<_}
 use mathlib.Core.Path.{_≡_, refl, sym, ap, subst, _∙_}
-use mathlib.Core.Bool.{false}
+use mathlib.Core.Bool.{true, false}
 use mathlib.Core.List.{List}
+use mathlib.Core.Logic.{_↔_, _⊎_, inl, inr}
 use mathlib.Core.Option.{Option, none, some}
 use native.Mathlib.Omega.{arith}
-use lib.ListN.{length, take, drop}
+use borrow.Author.Tests.{ltb-true, lt-ltb}
+use lib.ListN.{length, getD, take, drop}
 use lib.Seq.{take-at}
 use Rattle.sched.specs.Bounded.Laws.{true-not-false}
 use Rattle.sched.specs.Jobs.{Jobs, count, release, deadline, volume, totalVolume}
 use Rattle.sched.specs.Checks.{Passes, jobCheck}
 use Rattle.sched.specs.Checks.Laws.{job-passes}
-use Rattle.sched.specs.Slots.{awakeOf, times}
+use Rattle.sched.specs.Slots.{awakeOf, times, idle, asleep}
 use Rattle.sched.specs.Feasible.{Feasible}
 use Rattle.sched.specs.Energy.{energy}
 use Rattle.sched.specs.Overload.{overloaded, shownOverload, Overfull, Shown}
 use Rattle.sched.specs.Skeleton.{leastSkeleton}
 use Rattle.sched.specs.Workable.{workable}
 use Rattle.sched.specs.Extension.{woken, extended}
-use Rattle.sched.specs.Steps.{planTable}
+use Rattle.sched.specs.Table.{tableOf}
+use Rattle.sched.specs.Sleep.{works, workingOf}
+use Rattle.sched.specs.Sleep.Laws.{working-kept, others-rest}
+use Rattle.sched.specs.Steps.{tableFrom, planTable}
 use Rattle.sched.specs.Outcomes.{Plan, figuresOf, planBy, planned, plan, outcomeNumber}
 use Rattle.sched.specs.Outcomes.Laws.{early-overload, early-none, plan-ended, plan-goes-on}
 use Rattle.sched.specs.declared.Checked.the-variants.{Passed}
@@ -28,13 +33,13 @@ use Rattle.sched.specs.declared.Outcome.{Outcome}
 use Rattle.sched.specs.declared.Outcome.the-variants.{Planned, Overloaded}
 use Rattle.laws_edf.specs.Overload.Laws.{shown-none, some-shown, shown-some, overfull-overloaded}
 use Rattle.laws_edf.specs.Overload.Counting.{feasible-no-overload}
-use Rattle.laws_rivals.specs.Rivals.{Sound, AgainstRivals, Reports, asOutcome, Delivers, CountsWoken}
+use Rattle.laws_rivals.specs.Rivals.{Sound, AgainstRivals, CheapestSleep, Reports, asOutcome, Delivers, CountsWoken}
 use Rattle.laws_edf.specs.Theorems.{unhelpful-stays, large-volume-overfull}
 use Rattle.laws_skeleton.specs.Theorems.{least-length}
 use Rattle.laws_extension.specs.Waking.Cursor.{wokenFrom, triedFrom}
 use Rattle.laws_extension.specs.Waking.Cursor.Laws.{woken-from}
 use Rattle.laws_extension.specs.Waking.Cursor.Once.{tried-once}
-use Rattle.laws_rivals.specs.Steps.{extended-full, added-is-shortfall, plan-feasible, plan-energy}
+use Rattle.laws_rivals.specs.Steps.{extended-full, added-is-shortfall, plan-feasible, plan-energy, plan-working, plan-cheapest}
 
 -- Any planner
 
@@ -80,7 +85,7 @@ any-planner-sound steps J lent p m delivers = by-shown (shownOverload J) refl
         (subst (λ (o : Outcome). Sound J (asOutcome o) (take (J .horizon) ((steps J lent) .table))) (sym (d .planned))
         (planned-sound J (d .figures) (take (J .horizon) ((steps J lent) .table)) (d .feasible) (d .reported)))
 
--- The plan of 01
+-- The plan of 01 and 02
 
 module _ (J : Jobs) (lent : List ℕ) (p : Passes J) (n : (a b : ℕ) → overloaded J a b ≡ false) where
   first-bytes : take (J .horizon) ((planned J lent) .table) ≡ planTable J
@@ -97,24 +102,36 @@ module _ (J : Jobs) (lent : List ℕ) (p : Passes J) (n : (a b : ℕ) → overlo
   }
 
 module _ (J : Jobs) (lent : List ℕ) (p : Passes J) (m : J .horizon ≤ length lent) where
-  -- a reported energy is that of the plan's table, where no interval is overloaded
-  reported-is : (reported : ℕ) → Reports ((plan J lent) .answer) reported →
-      ((a b : ℕ) → overloaded J a b ≡ false) × (reported ≡ energy J (awakeOf (planTable J)))
-  unfolding plan planned figuresOf
+  -- an energy is reported where no interval is overloaded; it is that of the plan's table, which is handed over
+  Planned-is : ℕ → Type 0
+  Planned-is reported =
+      ((a b : ℕ) → overloaded J a b ≡ false) × (reported ≡ energy J (awakeOf (planTable J))) × (take (J .horizon) ((plan J lent) .table) ≡ planTable J)
+
+  reported-is : (reported : ℕ) → Reports ((plan J lent) .answer) reported → Planned-is reported
+  unfolding plan planned figuresOf Planned-is
   reported-is reported r = by-shown (shownOverload J) refl
     where
-      by-shown : (o : Option Interval) → shownOverload J ≡ o → ((a b : ℕ) → overloaded J a b ≡ false) × (reported ≡ energy J (awakeOf (planTable J)))
+      by-shown : (o : Option Interval) → shownOverload J ≡ o → Planned-is reported
       by-shown (some i) e = absurd (rw (plan-ended planned J lent (Overloaded i) (early-overload J (length lent) p m i e)) at r)
       by-shown none e =
-          (shown-none J e, sym (rw (plan-goes-on planned J lent (early-none J (length lent) p m e)) at r))
+          let on = plan-goes-on planned J lent (early-none J (length lent) p m e) in
+          let free = shown-none J e in
+          (free, sym (rw on at r), ap (λ (x : Plan). take (J .horizon) (x .table)) on ∙ first-bytes J lent p free)
 
-  -- Ours and any rival.
-  pub demand-three : AgainstRivals J (asOutcome ((plan J lent) .answer)) (take (J .horizon) ((plan J lent) .table))
-  unfolding plan
-  demand-three = record {
+  -- Ours and any rival. Before slot 0 the processor sleeps, as the sleep rule takes it.
+  pub demand-three : J .start ≡ false → AgainstRivals J (asOutcome ((plan J lent) .answer)) (take (J .horizon) ((plan J lent) .table))
+  unfolding plan Planned-is
+  demand-three start = record {
     sound = any-planner-sound planned J lent p m (λ n. plan-delivers J lent p n);
-    limit = λ reported r rival f. let s = reported-is reported r in omega (arith, s .1, plan-energy J p (s .0) rival f);
+    limit = λ reported r rival f. let s = reported-is reported r in omega (arith, s .1, plan-energy J p (s .0) start rival f);
   }
+
+  -- Ours and any table in which the same slots work as in ours.
+  pub cheapest-sleep : J .start ≡ false → CheapestSleep J (asOutcome ((plan J lent) .answer)) (take (J .horizon) ((plan J lent) .table))
+  unfolding plan Planned-is
+  cheapest-sleep start reported r =
+      let (free, energy-is, table-is) = reported-is reported r in
+      rw table-is (energy-is, λ other same. plan-cheapest J other start same)
 
 planned-not-overloaded : (f : PlanFigures) (i : Interval) → _≡_ {A = Outcome} (Planned f) (Overloaded i) → ⊥
 planned-not-overloaded f i e = let z : _≡_ {A = ℕ} 0 1 = cc in omega arith
@@ -177,5 +194,32 @@ pub extension-tries : (J : Jobs) (i : ℕ) → Passes J → times i (triedFrom (
 extension-tries J i p = tried-once J (J .horizon) (leastSkeleton J) 0 i (least-length J p)
 
 -- The energy limit: the table of steps 2 to 5 costs at most any feasible table and the sum of volumes.
-pub energy-limit : (J : Jobs) (rival : List ℕ) → Passes J → ((a b : ℕ) → overloaded J a b ≡ false) → Feasible J rival → energy J (awakeOf (planTable J)) ≤ energy J (awakeOf rival) + totalVolume J
-energy-limit J rival p n f = plan-energy J p n rival f
+pub energy-limit : (J : Jobs) (rival : List ℕ) → Passes J → J .start ≡ false → ((a b : ℕ) → overloaded J a b ≡ false) → Feasible J rival → energy J (awakeOf (planTable J)) ≤ energy J (awakeOf rival) + totalVolume J
+energy-limit J rival p start n f = plan-energy J p n start rival f
+
+-- Step 5
+
+-- A slot of a feasible table works just where a job of the list runs in it.
+pub job-works : (J : Jobs) (table : List ℕ) (t : ℕ) → Passes J → Feasible J table → t < J .horizon → (works (getD table t 0) ≡ true) ↔ (getD table t 0 < count J)
+job-works J table t p f l = (λ w. named (ltb-true (getD table t 0) 64 w) (f .known t l), λ m. lt-ltb (getD table t 0) 64 (omega (arith, p .few)))
+  where
+    named : getD table t 0 < 64 → (getD table t 0 < count J) ⊎ ((getD table t 0 ≡ idle) ⊎ (getD table t 0 ≡ asleep)) → getD table t 0 < count J
+    named w (inl m) = m
+    named w (inr (inl e)) = absurd (omega arith)
+    named w (inr (inr e)) = absurd (omega arith)
+
+-- "The working slots of step 4 are fixed": the same slots work as in step 4's table, each for the same job, and every other slot is idle or asleep
+pub record KeepsWork (before after : List ℕ) : Type 0 where
+  pub same : workingOf after ≡ workingOf before
+  pub jobs : (t : ℕ) → t < length before → works (getD before t 0) ≡ true → getD after t 0 ≡ getD before t 0
+  pub others : (t : ℕ) → t < length before → works (getD before t 0) ≡ false → (getD after t 0 ≡ idle) ⊎ (getD after t 0 ≡ asleep)
+
+pub work-stays : (J : Jobs) → KeepsWork (tableOf J (extended J)) (planTable J)
+unfolding planTable tableFrom
+work-stays J =
+    let table = tableOf J (extended J) in
+    record { same = plan-working J; jobs = working-kept (J .wake) table; others = others-rest (J .wake) table }
+
+-- Before the card step 5 left step 4's table as it was: no plan costs more than then.
+pub never-dearer : (J : Jobs) → J .start ≡ false → energy J (awakeOf (planTable J)) ≤ energy J (awakeOf (tableOf J (extended J)))
+never-dearer J start = plan-cheapest J (tableOf J (extended J)) start (sym (plan-working J))

@@ -2,7 +2,7 @@
 -- refused here.
 use mathlib.Core.Path.{_≡_, refl}
 use mathlib.Core.List.{[]}
-use Rattle.sched.specs.Bounded.{total, anyBelow, allBelow, sumBelow, maxBelow, leastFrom, lastBelow, keep, firstLeast}
+use Rattle.sched.specs.Bounded.{total, anyBelow, allBelow, sumBelow, maxBelow, leastFrom, lastBelow, valuesFrom, keep, firstLeast}
 use Rattle.sched.specs.Checks.{checkFrom}
 use Rattle.sched.specs.Slots.{times, allSets}
 use Rattle.sched.specs.Energy.{awakeSlots, runsFrom}
@@ -26,7 +26,7 @@ pub third-printed : printed thirdBytes ≡ thirdText
 unfolding printed mapCheck redundancyCheck entryCheck entriesCheck column
     times total anyBelow allBelow sumBelow maxBelow leastFrom lastBelow keep firstLeast checkFrom allSets awakeSlots runsFrom
     volumeIf volumeInside overloaded overloadEndingAt shownOverload isSkeleton skeletons leastOf leastSkeleton mostFrom workable
-    helps wakeable nextWake wokenIn woken wakeAll extended earliest fillBy tableOf sleepRule tableFrom planTable
+    helps wakeable nextWake wokenIn woken wakeAll extended earliest fillBy tableOf valuesFrom sleepRule tableFrom planTable
     figuresOf planned earlyAnswer planBy plan leading runListFrom digits digitsIn numbers linesOf
 third-printed = refl
 

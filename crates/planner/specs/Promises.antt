@@ -1,4 +1,5 @@
--- What `plan` promises: 01's answer and table for every input, through 01's numbers and values; demand 3; and what `added` counts.
+-- What `plan` promises: the answer and table of 01 and 02 for every input, through their numbers and values; demand 3; that no table costs less in which
+-- the same slots work; and what `added` counts. The list is one of `jobsOf`, so the processor sleeps before slot 0.
 use Prim.Native.Nat.{ℕ, _≤_}
 use mathlib.Core.Path.{_≡_}
 use mathlib.Core.List.{List}
@@ -15,7 +16,7 @@ use Rattle.sched.specs.declared.PlanFigures.{PlanFigures}
 use Rattle.sched.specs.declared.Outcome.{Outcome}
 use Rattle.sched.specs.declared.Outcome.the-variants.{Planned}
 use Rattle.laws_edf.specs.Orders.{Orders}
-use Rattle.laws_rivals.specs.Rivals.{AgainstRivals, asOutcome, CountsWoken}
+use Rattle.laws_rivals.specs.Rivals.{AgainstRivals, CheapestSleep, asOutcome, CountsWoken}
 pub mod Laws
 
 -- `lent` is the table as it was lent, `table` as it is handed back
@@ -25,6 +26,7 @@ pub record PlanPromise (J : Jobs) (lent : List ℕ) (answer : Outcome) (table : 
   pub values : outcomeValues answer ≡ outcomeValues ((plan J lent) .answer)
   pub bytes : table ≡ (plan J lent) .table
   pub rivals : Passes J → J .horizon ≤ length lent → AgainstRivals J (asOutcome answer) (take (J .horizon) table)
+  pub cheapest : CheapestSleep J (asOutcome answer) (take (J .horizon) table)
   pub added : (f : PlanFigures) → answer ≡ Planned f → CountsWoken J (f .added)
 
 -- what steps 2 to 5 hand to `plan`: a table of just H bytes, and its figures

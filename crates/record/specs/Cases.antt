@@ -1,5 +1,5 @@
--- Closed cases, so that an edit of a definition is refused here: the plan record of the third plan of 01, "Plans worked by hand", written, read
--- back and taken apart by runs; and which of two faults of a record is told.
+-- Closed cases, so that an edit of a definition is refused here: the plan record of the third plan of 01, "Plans worked by hand", after card 5 of
+-- 02, written, read back and taken apart by runs; and which of two faults of a record is told.
 use mathlib.Core.Path.{_≡_, refl}
 use mathlib.Core.List.{List, [], _∷_}
 use Prim.Native.Nat.{ℕ}
@@ -17,9 +17,9 @@ use Rattle.record.specs.MapBits.{lowBits, bitsOf, someBit}
 use Rattle.record.specs.Reading.{recordCheck, readCheck, spread, tableIn}
 use Rattle.record.specs.OneRun.{runCheck, runIn, runPart}
 
--- "Its plan record is"
+-- "its record is"
 abbrev pub thirdRecord : List ℕ
-thirdRecord = 0x0A ∷ 0x00 ∷ 0x3F ∷ 0x03 ∷ 0x00 ∷ 0x02 ∷ 0x02 ∷ 0x02 ∷ 0x02 ∷ 0x02 ∷ 0x01 ∷ 0x01 ∷ []
+thirdRecord = 0x0A ∷ 0x00 ∷ 0xFF ∷ 0x03 ∷ 0x00 ∷ 0x02 ∷ 0x02 ∷ 0x02 ∷ 0x02 ∷ 0x02 ∷ 0xFE ∷ 0xFE ∷ 0x01 ∷ 0x01 ∷ []
 
 pub third-record : recordBytes (third .horizon) thirdTable ≡ thirdRecord
 unfolding recordOf mapFrom bits keep
@@ -29,14 +29,22 @@ pub third-read : (recordCheck thirdRecord ≡ Passed) × (tableIn thirdRecord �
 unfolding bytesBy total ones onesIn lowBits bitsOf someBit spread
 third-read = (refl, refl)
 
--- slots 0 to 5 and slots 8, 9
-pub third-runs :
-    (runIn thirdRecord 0 ≡ Found (record { first = 0; offset = 4; len = 6 }))
-    × (runIn thirdRecord 1 ≡ Found (record { first = 8; offset = 10; len = 2 }))
-    × (runPart thirdRecord 1 ≡ 0x01 ∷ 0x01 ∷ [])
-    × (runIn thirdRecord 2 ≡ NotFound (NoSuchRun 2))
+-- all ten slots
+pub third-runs : (runIn thirdRecord 0 ≡ Found (record { first = 0; offset = 4; len = 10 })) × (runIn thirdRecord 1 ≡ NotFound (NoSuchRun 1))
 unfolding bytesBy total ones onesIn lowBits bitsOf someBit awakeSlots leading runListFrom
-third-runs = (refl, refl, refl, refl)
+third-runs = (refl, refl)
+
+-- the same table with slots 6 and 7 asleep: slots 0 to 5 and slots 8, 9
+abbrev twoRuns : List ℕ
+twoRuns = 0x0A ∷ 0x00 ∷ 0x3F ∷ 0x03 ∷ 0x00 ∷ 0x02 ∷ 0x02 ∷ 0x02 ∷ 0x02 ∷ 0x02 ∷ 0x01 ∷ 0x01 ∷ []
+
+pub two-runs :
+    (runIn twoRuns 0 ≡ Found (record { first = 0; offset = 4; len = 6 }))
+    × (runIn twoRuns 1 ≡ Found (record { first = 8; offset = 10; len = 2 }))
+    × (runPart twoRuns 1 ≡ 0x01 ∷ 0x01 ∷ [])
+    × (runIn twoRuns 2 ≡ NotFound (NoSuchRun 2))
+unfolding bytesBy total ones onesIn lowBits bitsOf someBit awakeSlots leading runListFrom
+two-runs = (refl, refl, refl, refl)
 
 -- a run over the end of a map byte is one run: H 10, slots 7 and 8
 pub run-over-bytes :

@@ -36,6 +36,11 @@ unfoldable pub lastBelow : ℕ → (ℕ → Bool) → Option ℕ
 lastBelow zero f = none
 lastBelow (suc n) f = elim (f n) [ true ↦ some n | false ↦ lastBelow n f ]
 
+-- the values of f at the k numbers from t on
+unfoldable pub valuesFrom : {A : Type 0} → ℕ → ℕ → (ℕ → A) → List A
+valuesFrom zero t f = []
+valuesFrom (suc k) t f = f t ∷ valuesFrom k (suc t) f
+
 -- the members of a list of which f holds, in order
 unfoldable pub keep : {A : Type 0} → (A → Bool) → List A → List A
 keep f [] = []

@@ -1,8 +1,8 @@
--- Bytes that a writer puts into a lent buffer, one part after the other.
-use Prim.Native.Nat.{ℕ, _+_}
+-- Bytes that a writer puts into a lent buffer: one part after the other, or one byte all along a stretch.
+use Prim.Native.Nat.{ℕ, _+_, _-_}
 use mathlib.Core.Path.{_≡_}
-use mathlib.Core.List.{List}
-use lib.ListN.{length}
+use mathlib.Core.List.{List, _++_}
+use lib.ListN.{length, take, drop, replicate}
 use lib.Seq.{sets}
 pub mod Laws
 
@@ -10,3 +10,7 @@ pub mod Laws
 pub record PutAt (out : List ℕ) (at : ℕ) (bytes : List ℕ) (end : ℕ) (after : List ℕ) : Type 0 where
   pub next : end ≡ at + length bytes
   pub stored : after ≡ sets out at bytes
+
+-- the bytes from place `from` up to place `to` are `byte`, the others as they were
+abbrev pub poured : ℕ → ℕ → ℕ → List ℕ → List ℕ
+poured from to byte out = take from out ++ (replicate (to - from) byte ++ drop to out)

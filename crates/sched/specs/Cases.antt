@@ -1,6 +1,6 @@
 -- 01, "Plans worked by hand": the starred plans, in one table, and the one claim that the definitions give just these, so that a wrong edit
--- of a definition is refused here; at the end, faulty jobs. What 01 does not name (some skeletons, orders, tables and figures) was computed by a separate search. Where 01 says
--- that a plan is not the best, its row has a rival's table that costs less, and the claim speaks of that, too.
+-- of a definition is refused here; at the end, slept tables and faulty jobs. Figures and tables are those after card 5 of 02. What 01 and 02 do not name (some skeletons, orders, tables and figures) was
+-- computed by a separate search. The last row is a plan that is not the best, with two stretches of just q slots: it has a rival's table that costs less, and the claim speaks of that, too.
 use Prim.Native.Nat.{ℕ, suc, _<_}
 use mathlib.Core.Path.{_≡_, refl}
 use mathlib.Core.Bool.{Bool, true, false, _&&_}
@@ -10,7 +10,7 @@ use mathlib.Core.Option.{Option, none, some}
 use borrow.Author.Tests.{ltb-true, eqb-true}
 use lib.ListN.{replicate}
 use lib.Dec.{ltb, eqb}
-use Rattle.sched.specs.Bounded.{total, anyBelow, allBelow, sumBelow, maxBelow, leastFrom, lastBelow, keep, firstLeast}
+use Rattle.sched.specs.Bounded.{total, anyBelow, allBelow, sumBelow, maxBelow, leastFrom, lastBelow, valuesFrom, keep, firstLeast}
 use Rattle.sched.specs.Bounded.Laws.{and-true}
 use Rattle.sched.specs.Jobs.{Jobs, jobsOf}
 use Rattle.sched.specs.Checks.{checkFrom, checkOf, checkedNumber, checkedValues}
@@ -45,9 +45,9 @@ jobs h q js = jobsOf h q (map (λ x. x .r) js) (map (λ x. x .d) js) (map (λ x.
 abbrev pub third : Jobs
 third = jobs 10 3 (job 0 3 1 ∷ job 8 10 2 ∷ job 0 10 5 ∷ [])
 
--- and its table, of which 01 also gives the plan record
+-- and its table, of which card 5 of 02 also gives the plan record
 abbrev pub thirdTable : List ℕ
-thirdTable = 0 ∷ 2 ∷ 2 ∷ 2 ∷ 2 ∷ 2 ∷ 255 ∷ 255 ∷ 1 ∷ 1 ∷ []
+thirdTable = 0 ∷ 2 ∷ 2 ∷ 2 ∷ 2 ∷ 2 ∷ 254 ∷ 254 ∷ 1 ∷ 1 ∷ []
 
 -- a worked plan: the slots of the skeleton, the slots woken in order, the table, the number returned and the values with it. Of an overloaded
 -- list 01 gives only the last two, and the table stays as it was lent, here H bytes of 7
@@ -121,22 +121,22 @@ pub starred : List Row
 starred =
     plans (jobs 12 3 (job 0 4 2 ∷ job 6 10 2 ∷ [])) (4 ∷ 5 ∷ []) (3 ∷ 2 ∷ 6 ∷ 7 ∷ [])
     (255 ∷ 255 ∷ 0 ∷ 0 ∷ 254 ∷ 254 ∷ 1 ∷ 1 ∷ 255 ∷ 255 ∷ 255 ∷ 255 ∷ []) (9 ∷ 6 ∷ 1 ∷ 4 ∷ [])
-    ∷ beaten (255 ∷ 255 ∷ 0 ∷ 0 ∷ 255 ∷ 255 ∷ 1 ∷ 1 ∷ 255 ∷ 255 ∷ 255 ∷ 255 ∷ []) 2 6
-    (plans (jobs 12 1 (job 0 4 2 ∷ job 6 10 2 ∷ [])) (4 ∷ 5 ∷ []) (3 ∷ 2 ∷ 6 ∷ 7 ∷ [])
-    (255 ∷ 255 ∷ 0 ∷ 0 ∷ 254 ∷ 254 ∷ 1 ∷ 1 ∷ 255 ∷ 255 ∷ 255 ∷ 255 ∷ []) (7 ∷ 6 ∷ 1 ∷ 4 ∷ []))
-    ∷ plans third (3 ∷ 9 ∷ []) (2 ∷ 1 ∷ 0 ∷ 4 ∷ 5 ∷ 8 ∷ []) thirdTable (14 ∷ 8 ∷ 2 ∷ 6 ∷ [])
+    ∷ plans (jobs 12 1 (job 0 4 2 ∷ job 6 10 2 ∷ [])) (4 ∷ 5 ∷ []) (3 ∷ 2 ∷ 6 ∷ 7 ∷ [])
+    (255 ∷ 255 ∷ 0 ∷ 0 ∷ 255 ∷ 255 ∷ 1 ∷ 1 ∷ 255 ∷ 255 ∷ 255 ∷ 255 ∷ []) (6 ∷ 4 ∷ 2 ∷ 4 ∷ [])
+    ∷ plans third (3 ∷ 9 ∷ []) (2 ∷ 1 ∷ 0 ∷ 4 ∷ 5 ∷ 8 ∷ []) thirdTable (13 ∷ 10 ∷ 1 ∷ 6 ∷ [])
     ∷ plans (jobs 8 2 (job 2 5 3 ∷ [])) (5 ∷ []) (4 ∷ 3 ∷ 2 ∷ [])
-    (255 ∷ 255 ∷ 0 ∷ 0 ∷ 0 ∷ 254 ∷ 255 ∷ 255 ∷ []) (6 ∷ 4 ∷ 1 ∷ 3 ∷ [])
+    (255 ∷ 255 ∷ 0 ∷ 0 ∷ 0 ∷ 255 ∷ 255 ∷ 255 ∷ []) (5 ∷ 3 ∷ 1 ∷ 3 ∷ [])
     ∷ overloads (jobs 8 1 (job 2 5 4 ∷ [])) 2 5
     ∷ overloads (jobs 3 1 (job 0 2 2 ∷ job 1 3 2 ∷ [])) 0 3
     ∷ plans (jobs 3 1 (job 0 2 2 ∷ job 1 3 1 ∷ [])) (2 ∷ []) (1 ∷ 0 ∷ []) (0 ∷ 0 ∷ 1 ∷ []) (4 ∷ 3 ∷ 1 ∷ 2 ∷ [])
     ∷ plans (jobs 2 1 (job 0 2 1 ∷ job 0 2 1 ∷ [])) (1 ∷ []) (0 ∷ []) (0 ∷ 1 ∷ []) (3 ∷ 2 ∷ 1 ∷ 1 ∷ [])
     ∷ plans (jobs 1 1 []) [] [] (255 ∷ []) (0 ∷ 0 ∷ 0 ∷ 0 ∷ [])
     ∷ plans (jobs 1 65535 (job 0 1 1 ∷ [])) (0 ∷ []) [] (0 ∷ []) (65536 ∷ 1 ∷ 1 ∷ 0 ∷ [])
+    ∷ beaten (0 ∷ 255 ∷ 255 ∷ 1 ∷ 2 ∷ []) 2 5
+    (plans (jobs 5 1 (job 0 1 1 ∷ job 2 4 1 ∷ job 4 5 1 ∷ [])) (1 ∷ 4 ∷ []) (0 ∷ 2 ∷ []) (0 ∷ 255 ∷ 1 ∷ 255 ∷ 2 ∷ []) (6 ∷ 3 ∷ 3 ∷ 2 ∷ []))
     ∷ []
 
--- "Two separate runs would cost 6, so a plan need not be the best": the rival's table is feasible, has these runs, costs this, and that is less
--- than the plan
+-- "a plan need not be the best": the rival's table is feasible, has these runs, costs this, and that is less than the plan
 pub record Cheaper (w : Worked) (r : Rival) : Type 0 where
   pub feasible : Feasible (w .list) (r .table)
   pub separate : runs (awakeOf (r .table)) ≡ r .runs
@@ -200,9 +200,27 @@ pub starred-plans : (row : Row) → List·Memᴰ row starred → Right row
 unfolding members skeletonFor orderFor found plans overloads beaten starred cheaperTest allCheaper
     times total anyBelow allBelow sumBelow maxBelow leastFrom lastBelow keep firstLeast checkFrom allSets awakeSlots runsFrom
     volumeIf volumeInside overloaded overloadEndingAt shownOverload isSkeleton skeletons leastOf leastSkeleton mostFrom workable
-    helps wakeable nextWake wokenIn woken wakeAll extended earliest fillBy tableOf sleepRule tableFrom planTable
+    helps wakeable nextWake wokenIn woken wakeAll extended earliest fillBy tableOf valuesFrom sleepRule tableFrom planTable
     figuresOf planned earlyAnswer planBy plan
 starred-plans = all-right starred refl refl
+
+-- 02, card 5: tables of one job each before and after the sleep rule. A stretch of one, two and three slots with wake costs 0 to 4; slots before the
+-- first and after the last working one; no working slot; and bytes that are neither a job nor 254 or 255.
+pub slept-tables :
+    map (λ q. sleepRule q (254 ∷ 0 ∷ 254 ∷ 0 ∷ 255 ∷ 255 ∷ 0 ∷ 254 ∷ 255 ∷ 254 ∷ 0 ∷ 255 ∷ [])) (0 ∷ 1 ∷ 2 ∷ 3 ∷ 4 ∷ [])
+    ≡ (255 ∷ 0 ∷ 255 ∷ 0 ∷ 255 ∷ 255 ∷ 0 ∷ 255 ∷ 255 ∷ 255 ∷ 0 ∷ 255 ∷ [])
+    ∷ (255 ∷ 0 ∷ 255 ∷ 0 ∷ 255 ∷ 255 ∷ 0 ∷ 255 ∷ 255 ∷ 255 ∷ 0 ∷ 255 ∷ [])
+    ∷ (255 ∷ 0 ∷ 254 ∷ 0 ∷ 255 ∷ 255 ∷ 0 ∷ 255 ∷ 255 ∷ 255 ∷ 0 ∷ 255 ∷ [])
+    ∷ (255 ∷ 0 ∷ 254 ∷ 0 ∷ 254 ∷ 254 ∷ 0 ∷ 255 ∷ 255 ∷ 255 ∷ 0 ∷ 255 ∷ [])
+    ∷ (255 ∷ 0 ∷ 254 ∷ 0 ∷ 254 ∷ 254 ∷ 0 ∷ 254 ∷ 254 ∷ 254 ∷ 0 ∷ 255 ∷ [])
+    ∷ []
+unfolding leastFrom lastBelow valuesFrom sleepRule
+slept-tables = refl
+
+pub slept-bytes :
+    map (sleepRule 9) ((254 ∷ 254 ∷ []) ∷ (63 ∷ 64 ∷ 253 ∷ 63 ∷ 64 ∷ []) ∷ [] ∷ []) ≡ (255 ∷ 255 ∷ []) ∷ (63 ∷ 254 ∷ 254 ∷ 63 ∷ 255 ∷ []) ∷ [] ∷ []
+unfolding leastFrom lastBelow valuesFrom sleepRule
+slept-bytes = refl
 
 -- 02, card 1: faulty jobs in eight slots behind a good one, each with the number that comes back. First each fault alone, then each pair, then
 -- all three; the last three are next to a fault and have none.

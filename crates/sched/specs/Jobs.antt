@@ -1,6 +1,6 @@
 -- 01, "Words of the plan", first paragraph: a list is a horizon H, a wake cost q, and jobs numbered from 0, each with release, deadline
 -- and volume. The three lists of fields are kept apart, as they are lent; `Checks` says which of them belong together. The state before
--- slot 0 is a part of the list, so that what is proved of energy, skeletons and steps holds for either.
+-- slot 0 is a part of the list, so that what is proved of energy, skeletons and the first four steps holds for either; step 5's rule is for a start asleep.
 use Prim.Native.Nat.{ℕ}
 use mathlib.Core.Bool.{Bool, false}
 use mathlib.Core.List.{List}

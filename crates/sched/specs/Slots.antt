@@ -17,6 +17,11 @@ idle = 254
 abbrev pub asleep : ℕ
 asleep = 255
 
+-- the byte of a slot in which no job runs, awake or not
+abbrev pub markByte : Bool → ℕ
+markByte true = idle
+markByte false = asleep
+
 -- the awake slots of a table
 abbrev pub awakeOf : List ℕ → List Bool
 awakeOf = map (λ byte. not (eqb byte asleep))

@@ -1,4 +1,4 @@
-// What the other crates share: the words of the plan, refusals and figures among them, the checks that several of them make, and a copy.
+// What the other crates share: the words of the plan, refusals and figures among them, the checks that several of them make, a copy and a fill.
 ghost use mathlib.Core.Path.{_≡_};
 ghost use mathlib.Core.List.{_++_};
 ghost use Rattle.sched.specs.Refusals.{number, place};
@@ -7,6 +7,7 @@ ghost use Prim.Native.Nat.{_-_, _≤_};
 ghost use lib.ListN.{length, take, drop};
 ghost use Rattle.sched.specs.Jobs.{Jobs};
 ghost use Rattle.sched.specs.Energy.{tableFigures};
+ghost use Rattle.sched.specs.Buffers.{poured};
 ghost use Rattle.sched.specs.Checks.{CheckPromise, horizonCheck, lengthCheck, tableCheck, bytesFrom, slotsCheck, jobCheck, jobsCheck, countCheck, listsCheck, listCheck};
 
 // The bytes of a table that are no job numbers.
@@ -306,6 +307,18 @@ pub fn copy(n: usize, from: &[u16], to: &mut [u16])
     let mut i = 0;
     while i < n {
         to[i] = from[i];
+        i += 1;
+    }
+}
+
+// One byte from a place up to but without another.
+pub fn fill(table: &mut [u8], from: usize, to: usize, byte: u8)
+    requires { ⌜ (from ≤ to) × (to ≤ length (now table)) ⌝ }
+    ensures { λ r. ⌜ now (table .exit) ≡ poured from to byte (now (table .entry)) ⌝ }
+{
+    let mut i = from;
+    while i < to {
+        table[i] = byte;
         i += 1;
     }
 }

@@ -18,7 +18,7 @@ use Rattle.sched.specs.declared.Refusal.the-variants.{TooShort}
 use Rattle.sched.specs.declared.PlanFigures.{PlanFigures}
 use Rattle.sched.specs.declared.Outcome.{Outcome}
 use Rattle.sched.specs.declared.Outcome.the-variants.{Planned, Overloaded, Refused}
-use Rattle.laws_rivals.specs.Rivals.{AgainstRivals, asOutcome, CountsWoken}
+use Rattle.laws_rivals.specs.Rivals.{AgainstRivals, Reports, asOutcome, CountsWoken}
 use Rattle.sleep_plan.specs.Block.{answerBytes, numberIn}
 use Rattle.sleep_plan.specs.Block.Laws.{tooLarge, Small, one-number, two-numbers, four-numbers}
 use Rattle.sleep_plan.specs.Puts.{Puts, FiguresFit}
@@ -93,3 +93,10 @@ pub counts : (J : Jobs) (o : Outcome) (block′ : List ℕ) → ((f : PlanFigure
 counts J (Planned f) block′ counted back z = subst (CountsWoken J) (sym back) (counted f refl)
 counts J (Overloaded i) block′ counted back z = absurd (omega arith)
 counts J (Refused r) block′ counted back z = absurd (refusal-number r z)
+
+-- and an energy that the block's first number tells is the outcome's
+pub reports-back : (o : Outcome) (block′ : List ℕ) (reported : ℕ) → numberIn block′ 0 ≡ getD (outcomeValues o) 0 0 → outcomeNumber o ≡ 0 →
+    numberIn block′ 0 ≡ reported → Reports o reported
+reports-back (Planned f) block′ reported back z e = sym back ∙ e
+reports-back (Overloaded i) block′ reported back z e = absurd (omega arith)
+reports-back (Refused r) block′ reported back z e = absurd (refusal-number r z)

@@ -13,7 +13,7 @@ use Rattle.sched.specs.Outcomes.{outcomeValues}
 use Rattle.sched.specs.declared.Refusal.{Refusal}
 use Rattle.sched.specs.declared.Checked.the-variants.{Passed, Refused as Faulty}
 use Rattle.sched.specs.declared.Outcome.{Outcome}
-use Rattle.laws_rivals.specs.Rivals.{AgainstRivals, CountsWoken}
+use Rattle.laws_rivals.specs.Rivals.{AgainstRivals, CheapestSleep, CountsWoken}
 use Rattle.planner.specs.Promises.{PlanPromise}
 use Rattle.joblist.specs.Reading.{listOf}
 use Rattle.sched.specs.Checks.Laws.{refused-not-passed}
@@ -26,7 +26,7 @@ use Rattle.joblist.specs.Bytes.{spelling}
 use Rattle.joblist.specs.Theorems.{spelling-read, spelling-list, read-list-passes, place-small}
 use Rattle.sleep_plan.specs.Entry.Laws.{entry-short, entry-answers, answer-refused, answer-planned}
 use Rattle.sleep_plan.specs.Promises.{asCall, CallPromise}
-use Rattle.sleep_plan.proofs.Answers.{plan-fits, outcome-numbers, against, counts}
+use Rattle.sleep_plan.proofs.Answers.{plan-fits, outcome-numbers, against, counts, reports-back}
 
 -- the bytes of a list that passes the list checks are read, to that list
 spelled-reads : (J : Jobs) (list : List ℕ) → Passes J → list ≡ spelling J → bytesCheck list ≡ Passed
@@ -46,6 +46,8 @@ promise-short list table block l =
       numbers = λ m i k. absurd (omega arith);
       rivals = λ J z p e h m. absurd (omega arith);
       rivals-of-bytes = λ p h m. absurd (omega arith);
+      cheapest = λ J z p e reported y. absurd (omega (arith, y .0));
+      cheapest-of-bytes = λ reported y. absurd (omega (arith, y .0));
       added = λ J z p e y. absurd (omega arith);
       added-of-bytes = λ y. absurd (omega arith);
     }
@@ -66,6 +68,8 @@ promise-refused list table block block′ n r l f puts =
           ∙ ap (λ (x : Answer). getD (x .values) i 0) (sym a);
       rivals = λ J z p e h m. refused-not-passed r (sym f ∙ spelled-reads J list p e);
       rivals-of-bytes = λ p h m. refused-not-passed r (sym f ∙ p);
+      cheapest = λ J z p e reported y. absurd (refusal-number r (sym (puts .returned) ∙ y .0));
+      cheapest-of-bytes = λ reported y. absurd (refusal-number r (sym (puts .returned) ∙ y .0));
       added = λ J z p e y. absurd (refusal-number r (sym (puts .returned) ∙ y));
       added-of-bytes = λ y. absurd (refusal-number r (sym (puts .returned) ∙ y));
     }
@@ -83,6 +87,8 @@ promise-planned list table block table′ block′ n o J small l p same promise 
     (λ i b. ap (λ (x : List ℕ). numberIn x i) (puts .puts .block) ∙ outcome-numbers o (drop blockLength block) fits i b) in
     let held : K .horizon ≤ length table → AgainstRivals K (asCall n block′) (take (K .horizon) table′) =
     (λ h. against K o (take (K .horizon) table′) block block′ n (ours .rivals passes h) (puts .puts) back) in
+    let least : CheapestSleep K (asCall n block′) (take (K .horizon) table′) =
+    (λ reported y. ours .cheapest reported (reports-back o block′ reported (back 0 (omega arith)) (sym (puts .puts .returned) ∙ y .0) (y .1))) in
     let counted : n ≡ 0 → CountsWoken K (numberIn block′ 3) =
     (λ z. counts K o block′ (ours .added) (back 3 (omega arith)) (sym (puts .puts .returned) ∙ z)) in
     record {
@@ -94,6 +100,8 @@ promise-planned list table block table′ block′ n o J small l p same promise 
           let is : K ≡ L = spelled-is L list z q s in
           subst (λ (x : Jobs). x .horizon ≤ length table → AgainstRivals x (asCall n block′) (take (x .horizon) table′)) is held h;
       rivals-of-bytes = λ _ h m. held h;
+      cheapest = λ L z q s. subst (λ (x : Jobs). CheapestSleep x (asCall n block′) (take (x .horizon) table′)) (spelled-is L list z q s) least;
+      cheapest-of-bytes = least;
       added = λ L z q s y. subst (λ (x : Jobs). CountsWoken x (numberIn block′ 3)) (spelled-is L list z q s) (counted y);
       added-of-bytes = counted;
     }

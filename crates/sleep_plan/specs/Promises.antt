@@ -1,5 +1,5 @@
--- What `sleep_plan` promises: the equations for everything that a call gives back; demand 3, and what `added` counts, in terms of what a caller
--- in C sees.
+-- What `sleep_plan` promises: the equations for everything that a call gives back; demand 3, that no table in which the same slots work costs less, and
+-- what `added` counts, in terms of what a caller in C sees.
 use Prim.Native.Nat.{ℕ, _≤_, _<_}
 use mathlib.Core.Path.{_≡_}
 use mathlib.Core.Bool.{false}
@@ -8,7 +8,7 @@ use lib.ListN.{length, getD, take}
 use Rattle.sched.specs.Jobs.{Jobs}
 use Rattle.sched.specs.Checks.{Passes}
 use Rattle.sched.specs.declared.Checked.the-variants.{Passed}
-use Rattle.laws_rivals.specs.Rivals.{Answered, AgainstRivals, CountsWoken}
+use Rattle.laws_rivals.specs.Rivals.{Answered, AgainstRivals, CheapestSleep, CountsWoken}
 use Rattle.joblist.specs.Bytes.{spelling}
 use Rattle.joblist.specs.Reading.{listOf}
 use Rattle.sleep_plan.specs.Block.{blockLength, numberIn}
@@ -34,6 +34,10 @@ pub record CallPromise (list lent-table lent-block : List ℕ) (r : ℕ) (table�
   pub rivals : (J : Jobs) → J .start ≡ false → Passes J → list ≡ spelling J → J .horizon ≤ length lent-table → blockLength ≤ length lent-block → AgainstRivals J (asCall r block′) (take (J .horizon) table′)
   -- the same for bytes that the reader takes, which spell the list that it reads
   pub rivals-of-bytes : bytesCheck list ≡ Passed → listOf list .horizon ≤ length lent-table → blockLength ≤ length lent-block → AgainstRivals (listOf list) (asCall r block′) (take (listOf list .horizon) table′)
+  -- 02, card 5: whenever 0 comes back, the block's first number is the energy of the table handed back, and no table in which the same slots work costs less
+  pub cheapest : (J : Jobs) → J .start ≡ false → Passes J → list ≡ spelling J → CheapestSleep J (asCall r block′) (take (J .horizon) table′)
+  -- the same for any bytes
+  pub cheapest-of-bytes : CheapestSleep (listOf list) (asCall r block′) (take (listOf list .horizon) table′)
   -- "added counts the slots woken in step 3, and equals the sum of volumes less the skeleton's workable volume": whenever 0 comes back, this
   -- holds of the block's fourth number
   pub added : (J : Jobs) → J .start ≡ false → Passes J → list ≡ spelling J → r ≡ 0 → CountsWoken J (numberIn block′ 3)

@@ -2,13 +2,13 @@
 use Prim.Native.Nat.{ℕ, zero, suc, _+_, _-_, _≤_, _<_}
 use mathlib.Core.Path.{_≡_, refl, sym, ap, ap₂, _∙_}
 use mathlib.Core.Bool.{Bool, true, false}
-use mathlib.Core.List.{List, [], _∷_, _++_, append-nil, append-assoc, map-append}
+use mathlib.Core.List.{List, _∷_, _++_, append-nil, append-assoc, map-append}
 use native.Mathlib.Numerals.{add-one}
 use native.Mathlib.Omega.{arith}
-use lib.ListN.{length, getD, take, drop, set, length-set, length-append, length-replicate, replicate, replicate-append-replicate, drop-of-length-le, take-append-drop}
-use lib.Seq.{take-suc-set, drop-set-lt, drop-drop, drop-cons, drop-length, length-take-le, take-at, drop-at}
+use lib.ListN.{length, getD, take, drop, length-append, length-replicate, replicate, drop-of-length-le}
+use lib.Seq.{drop-drop, drop-cons, drop-length, length-take-le, take-at, drop-at}
 use Rattle.sched.specs.Jobs.{Jobs}
-use Rattle.sched.specs.Slots.{idle, asleep}
+use Rattle.sched.specs.Slots.{markByte, idle, asleep}
 use Rattle.laws_skeleton.specs.Windows.{windowEnd}
 use Rattle.laws_skeleton.specs.Windows.Laws.{window-within}
 use Rattle.laws_skeleton.specs.Order.Laws.{order-behind}
@@ -17,60 +17,11 @@ use Rattle.sched.specs.Runs.{Run}
 use Rattle.laws_skeleton.specs.Runs.Clauses.{values-first, runs-none, runs-begin, runs-skip, spread-none}
 use Rattle.laws_skeleton.specs.Runs.Choice.{run-end-from}
 use Rattle.laws_skeleton.specs.Runs.Values.{run-end-inside}
-use Rattle.step2_skeleton.specs.Marks.{markByte, marked, poured, withRun}
+use Rattle.sched.specs.Buffers.{poured}
+use Rattle.step2_skeleton.specs.Marks.{marked, withRun}
 use Rattle.step2_skeleton.specs.Places.{Windows, Untils, Drawable, Drawn}
 use Rattle.step2_skeleton.proofs.Sleeping.{starts-many, start-at}
 use Rattle.step2_skeleton.proofs.Pricing.{end-at, start-before}
-
--- the bytes from place `from` up to place t are `byte`, the others as they were
-pub record Poured (table₀ : List ℕ) (from to byte : ℕ) (table : List ℕ) (t : ℕ) : Type 0 where
-  pub start : from ≤ t
-  pub within : t ≤ to
-  pub long : to ≤ length table
-  pub kept : length table ≡ length table₀
-  pub done : take t table ≡ take from table₀ ++ replicate (t - from) byte
-  pub rest : drop t table ≡ drop t table₀
-
-module _ (table₀ : List ℕ) (from to byte : ℕ) where
-  pub poured-start : from ≤ to → to ≤ length table₀ → Poured table₀ from to byte table₀ from
-  poured-start l m =
-      let none : from - from ≡ 0 = omega arith in
-      record {
-        start = omega arith;
-        within = l;
-        long = m;
-        kept = refl;
-        done = sym
-            (ap (λ (n : ℕ). take from table₀ ++ replicate n byte) none ∙ append-nil (take from table₀));
-        rest = refl;
-      }
-
-  pub poured-turn : (table : List ℕ) (t : ℕ) → t < to → Poured table₀ from to byte table t → Poured table₀ from to byte (set table t byte) (t + 1)
-  poured-turn table t l m = record {
-    start = omega (arith, m .start);
-    within = omega arith;
-    long = simp length-set (m .long);
-    kept = length-set table t byte ∙ m .kept;
-    done = simp add-one step;
-    rest = drop-set-lt (t + 1) table t byte (omega arith) ∙ sym (drop-drop 1 t table) ∙ ap (drop 1) (m .rest) ∙ drop-drop 1 t table₀;
-  }
-    where
-      step : take (suc t) (set table t byte) ≡ take from table₀ ++ replicate (suc t - from) byte
-      step =
-          let more : suc t - from ≡ t - from + 1 = omega (arith, m .start) in
-          take-suc-set table t byte (omega (arith, m .long))
-          ∙ ap (λ (r : List ℕ). r ++ (byte ∷ [])) (m .done)
-          ∙ append-assoc (take from table₀) (replicate (t - from) byte) (byte ∷ [])
-          ∙ ap (λ (r : List ℕ). take from table₀ ++ r) (replicate-append-replicate (t - from) 1 byte ∙ ap (λ (n : ℕ). replicate n byte) (sym more))
-
-  pub poured-end : (table : List ℕ) (t : ℕ) → to ≤ t → Poured table₀ from to byte table t → table ≡ poured from to byte table₀
-  poured-end table t l m =
-      let e : t ≡ to = omega (arith, m .within) in
-      sym (take-append-drop t table)
-      ∙ ap (λ (r : List ℕ). r ++ drop t table) (m .done)
-      ∙ ap (λ (r : List ℕ). (take from table₀ ++ replicate (t - from) byte) ++ r) (m .rest)
-      ∙ append-assoc (take from table₀) (replicate (t - from) byte) (drop t table₀)
-      ∙ ap (λ (n : ℕ). poured from n byte table₀) e
 
 -- two stretches, one behind the other
 module _ (table : List ℕ) (s first end : ℕ) (a : s ≤ first) (b : first ≤ end) (fits : end ≤ length table) where

@@ -6,10 +6,11 @@ ghost use lib.ListN.{length, getD};
 ghost use lib.Dec.{ltb};
 ghost use Rattle.sched.specs.Jobs.{Jobs};
 ghost use Rattle.sched.specs.Skeleton.{leastSkeleton};
-ghost use Rattle.step2_skeleton.specs.Marks.{marked, poured, withRun};
+ghost use Rattle.step2_skeleton.specs.Marks.{marked, withRun};
 ghost use Rattle.step2_skeleton.specs.Places.{oneOf, wins, largest, AtMostFrom, Placeable, SleepFrom, EndFrom, Windows, Priceable, Step, Fresh, Untils, Drawable, Drawn, MarkableWindows, MarkedWindows, Markable};
 use sched::ASLEEP;
 use sched::IDLE;
+use sched::fill;
 
 // The first and the last slot of a job's window.
 fn first_of(release: u16) -> u16
@@ -157,17 +158,6 @@ fn price_all(
     while 0 < i {
         i -= 1;
         price(q, starts, ends, values, rests, untils, i);
-    }
-}
-
-fn fill(table: &mut [u8], from: usize, to: usize, byte: u8)
-    requires { ⌜ (from ≤ to) × (to ≤ length (now table)) ⌝ }
-    ensures { λ r. ⌜ now (table .exit) ≡ poured from to byte (now (table .entry)) ⌝ }
-{
-    let mut t = from;
-    while t < to {
-        table[t] = byte;
-        t += 1;
     }
 }
 

@@ -1,4 +1,4 @@
-// Document 01's steps on lists of at most four jobs and eight slots, by trying every set of slots and
+// Document 01's steps, the fifth as card 5 of 02 has it, on lists of at most four jobs and eight slots, by trying every set of slots and
 // every placement. Test code: it is held against the planner, and shares no function with it.
 // What a function yields is said above it and tested by `test_plans`; it is proved only where its contract has an equation.
 ghost use Rattle.test_exhaustive.specs.Bounds.{Bounded};
@@ -8,6 +8,7 @@ mod overload; // overload.rt: step 1
 mod sets; // sets.rt: sets of slots, what they cost, and step 2
 mod placement; // placement.rt: the workable volume of a set
 mod steps; // steps.rt: steps 3 and 4
+mod sleep; // sleep.rt: step 5
 mod rivals; // rivals.rt: every feasible table
 
 pub use rivals::NONE;
@@ -16,7 +17,7 @@ pub use small::Small;
 pub use small::digit;
 pub use small::volume;
 
-// A list's outcome by document 01: overloaded with the interval shown, a and b, or planned with energy, awake slots, runs, added and the
+// A list's outcome by document 01 and card 5: overloaded with the interval shown, a and b, or planned with energy, awake slots, runs, added and the
 // table. What does not apply is 0.
 pub struct Solved {
     pub overloaded: bool,
@@ -30,7 +31,8 @@ pub struct Solved {
     pub table: u64,
 }
 
-// The outcome of steps 1 to 5. The contract only bounds the figures; that they are right is what the comparison tests.
+// The outcome of steps 1 to 5 of 01, with card 5. `added` is what step 3 woke, the other figures are those of the set that step 5 leaves awake.
+// The contract only bounds the figures; that they are right is what the comparison tests.
 pub fn solve(l: Small) -> Solved
     ensures { λ r. ⌜ Bounded r ⌝ }
 {
@@ -48,7 +50,8 @@ pub fn solve(l: Small) -> Solved
         };
     }
     let extended = steps::extend(l, sets::least_skeleton(l));
-    let set = extended.set;
+    let filled = steps::fill(l, extended.set);
+    let set = sleep::awake(l, filled);
     let cost = sets::cost_of(l.q, set);
     Solved {
         overloaded: false,
@@ -58,6 +61,6 @@ pub fn solve(l: Small) -> Solved
         awake: cost.awake,
         runs: cost.runs,
         added: extended.added,
-        table: steps::fill(l, set),
+        table: sleep::settle(filled, set),
     }
 }

@@ -69,7 +69,7 @@ fn first_due(l: Small, left: u32, t: u32) -> u32 {
 }
 
 // The table with byte b in slot t, whose byte is 0 so far; t is below 8.
-fn put(table: u64, t: u32, b: u32) -> u64 {
+pub fn put(table: u64, t: u32, b: u32) -> u64 {
     table | ((b as u64) << (t % 8 * 8))
 }
 

@@ -1,10 +1,10 @@
-// Plan records read back and handed out by runs: the record that 01 works by hand and that of docs/BYTES.md, each refusal at its first and last
+// Plan records read back and handed out by runs: the records that 01 and 02 work by hand and that of docs/BYTES.md, each refusal at its first and last
 // place, several faults at once, tables of all kinds, all records of a few bytes, and damaged ones. `stdout` was worked out apart from this
 // program, by another implementation.
 
 mod show; // show.rt: answers as text
 mod cases; // cases.rt: the calls on one record, printed
-mod worked; // worked.rt: the two records of the documents
+mod worked; // worked.rt: the three records of the documents
 mod cuts; // cuts.rt: cut records, bytes left over, horizons
 mod padding; // padding.rt: bits of the last map byte
 mod slots; // slots.rt: bad slot bytes
@@ -32,6 +32,7 @@ fn refusals() {
 
 fn main() {
     worked::paper();
+    worked::card();
     worked::page();
     refusals();
     tables::each();

@@ -1,10 +1,13 @@
-// The record that 01 works by hand, and the record of docs/BYTES.md.
+// The record that 01 works by hand, the one that card 5 of 02 puts in its place, and the record of docs/BYTES.md.
 use super::cases;
 
 // The first: 12 bytes, and two more that are no part of it.
 pub const PAPER: [u8; 14] = [10, 0, 63, 3, 0, 2, 2, 2, 2, 2, 1, 1, 0, 255];
 
-// The second: 9 bytes, and two more.
+// The second: 14 bytes. Slots 6 and 7 do not sleep any more.
+const CARD: [u8; 14] = [10, 0, 255, 3, 0, 2, 2, 2, 2, 2, 254, 254, 1, 1];
+
+// The third: 9 bytes, and two more.
 pub const PAGE: [u8; 11] = [12, 0, 192, 7, 0, 2, 254, 1, 1, 0, 255];
 
 // Prints two lines: `worked` and what `cases::read` prints; `table` and the bytes of the table.
@@ -44,6 +47,14 @@ pub fn paper() {
 }
 
 // The same of the second.
+pub fn card() {
+    let bytes = CARD;
+    let mut table = [0u8; 13];
+    read(&bytes, &mut table);
+    runs(&bytes);
+}
+
+// The same of the third.
 pub fn page() {
     let all = PAGE;
     let bytes = test_bytes::first_bytes(&all, 9);

@@ -1,4 +1,4 @@
-// Tables and records on chosen inputs: the third plan that 01 works by hand, the plan of docs/BYTES.md, each refusal of the judge and of the
+// Tables and records on chosen inputs: the third plan that 01 works by hand, before and after card 5 of 02, the plan of docs/BYTES.md, each refusal of the judge and of the
 // record writer at its first and last place, slots with two faults, bytes behind the horizon, and horizons around the ends of a map byte and of 64
 // slots.
 
@@ -25,13 +25,18 @@ fn show_plan(
     test_bytes::bytes(test_bytes::first_bytes(out, room));
 }
 
-// The third plan that 01 works by hand.
-fn worked_case(out: &mut [u8]) {
+// The list of the third plan that 01 works by hand, with a table for it.
+fn third_case(t: &[u8], out: &mut [u8], room: usize) {
     let rs = [0u16, 8, 0];
     let ds = [3u16, 10, 10];
     let ps = [1u16, 2, 5];
-    let t = [0u8, 2, 2, 2, 2, 2, 255, 255, 1, 1];
-    show_plan(10, 3, &rs, &ds, &ps, &t, out, 14);
+    show_plan(10, 3, &rs, &ds, &ps, t, out, room);
+}
+
+// The plan as it was before card 5 of 02, and as it is.
+fn worked_cases(out: &mut [u8]) {
+    third_case(&[0u8, 2, 2, 2, 2, 2, 255, 255, 1, 1], out, 14);
+    third_case(&[0u8, 2, 2, 2, 2, 2, 254, 254, 1, 1], out, 16);
 }
 
 // The plan of docs/BYTES.md: asleep, idle and three jobs.
@@ -56,7 +61,7 @@ fn output() -> [u8; 4700] {
 fn main() {
     let mut t = table();
     let mut out = output();
-    worked_case(&mut out);
+    worked_cases(&mut out);
     page_case(&mut out);
     judging::list_faults(&t);
     judging::job_faults(&t);

@@ -39,8 +39,8 @@ static int differ(const uint8_t *a, const uint8_t *b, size_t n) {
 
 /* Both are lent longer than the answer, to see that what lies behind it stays 170. */
 static const uint8_t list[] = {10, 0, 3, 0, 3, 2, 3, 0, 5, 8, 0, 2, 0, 4, 5, 0};
-static const uint8_t table_expected[] = {0, 2, 2, 2, 2, 2, 255, 255, 1, 1, 170, 170};
-static const uint8_t block_expected[] = {14, 0, 0, 0, 8, 0, 0, 0, 2, 0, 0, 0, 6, 0, 0, 0, 170, 170, 170, 170};
+static const uint8_t table_expected[] = {0, 2, 2, 2, 2, 2, 254, 254, 1, 1, 170, 170};
+static const uint8_t block_expected[] = {13, 0, 0, 0, 10, 0, 0, 0, 1, 0, 0, 0, 6, 0, 0, 0, 170, 170, 170, 170};
 static uint8_t table[sizeof table_expected], block[sizeof block_expected];
 
 int check(void) {

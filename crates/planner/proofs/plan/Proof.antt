@@ -88,7 +88,7 @@ steps-requires c κs =
 returns : tie.Need-returns
 returns c =
     let answered = c .before .before .before .before .before in
-    answered-early (listed (start answered)) _ _ (ended-some _ _ (sym (c .before .outcome .given .1) ∙ answered .begin .ensures .early _ false .same))
+    answered-early (listed (start answered)) _ refl _ (ended-some _ _ (sym (c .before .outcome .given .1) ∙ answered .begin .ensures .early _ false .same))
 
 same-length : tie.Need-same-length
 same-length c = search needs
@@ -96,7 +96,7 @@ same-length c = search needs
 returns-2 : tie.Need-returns-2
 returns-2 c =
     let opened = c .before .before .before .before .before .before in
-    steps-planned (listed (start (begun opened))) _ _ _ _ (open-yet opened) (c .before .before .steps .ensures) refl
+    steps-planned (listed (start (begun opened))) _ refl _ _ _ (open-yet opened) (c .before .before .steps .ensures) refl
 
 pub plan-spec : {M : Type 1} → statement M
 plan-spec =

@@ -1,6 +1,7 @@
 -- The two ways through `plan`: an answer before any step, or the steps.
 use Prim.Native.Nat.{ℕ, _≤_}
 use mathlib.Core.Path.{_≡_, refl, sym, ap, subst, _∙_}
+use mathlib.Core.Bool.{false}
 use mathlib.Core.List.{List, _++_}
 use mathlib.Core.Option.{none, some}
 use lib.ListN.{length, drop}
@@ -16,8 +17,9 @@ use Rattle.sched.specs.declared.Checked.the-variants.{Passed, Refused as Faulty
 use Rattle.sched.specs.declared.Refusal.{Refusal}
 use Rattle.sched.specs.declared.PlanFigures.{PlanFigures}
 use Rattle.sched.specs.declared.Outcome.{Outcome}
-use Rattle.sched.specs.declared.Outcome.the-variants.{Planned, Refused}
-use Rattle.laws_rivals.specs.Theorems.{demand-three, added-counts}
+use Rattle.sched.specs.declared.Outcome.the-variants.{Planned, Overloaded, Refused}
+use Rattle.laws_rivals.specs.Rivals.{Reports}
+use Rattle.laws_rivals.specs.Theorems.{demand-three, cheapest-sleep, added-counts}
 use Rattle.planner.specs.Promises.{PlanPromise, Stepped}
 
 abbrev result : Outcome → List ℕ → Plan
@@ -41,31 +43,40 @@ module _ (J : Jobs) (lent : List ℕ) (z : outcomeNumber ((plan J lent) .answer)
   plan-checked : Passes J × (J .horizon ≤ length lent)
   plan-checked = by-list (checkOf J) refl
 
--- the plan of 01 keeps the promise
-plan-promised : (J : Jobs) (lent : List ℕ) → PlanPromise J lent ((plan J lent) .answer) ((plan J lent) .table)
-plan-promised J lent = record {
+-- an energy is reported with the number 0
+reports-planned : (o : Outcome) (reported : ℕ) → Reports o reported → outcomeNumber o ≡ 0
+reports-planned (Planned f) reported r = refl
+reports-planned (Overloaded i) reported r = absurd r
+reports-planned (Refused x) reported r = absurd r
+
+-- the plan keeps the promise
+plan-promised : (J : Jobs) (lent : List ℕ) → J .start ≡ false → PlanPromise J lent ((plan J lent) .answer) ((plan J lent) .table)
+plan-promised J lent asleep = record {
   same = refl;
   number = refl;
   values = refl;
   bytes = refl;
-  rivals = λ p m. demand-three J lent p m;
+  rivals = λ p m. demand-three J lent p m asleep;
+  cheapest = λ reported r.
+      let (p, m) = plan-checked J lent (reports-planned ((plan J lent) .answer) reported r) in
+      cheapest-sleep J lent p m asleep reported r;
   added = λ f e. let (p, m) = plan-checked J lent (ap outcomeNumber e) in added-counts J lent f p m e;
 }
 
-by-plan : (J : Jobs) (lent : List ℕ) (answer : Outcome) (table : List ℕ) → plan J lent ≡ result answer table → PlanPromise J lent answer table
-by-plan J lent answer table e =
-    subst (λ (x : Plan). PlanPromise J lent (x .answer) (x .table)) e (plan-promised J lent)
+module _ (J : Jobs) (lent : List ℕ) (asleep : J .start ≡ false) where
+  by-plan : (answer : Outcome) (table : List ℕ) → plan J lent ≡ result answer table → PlanPromise J lent answer table
+  by-plan answer table e =
+      subst (λ (x : Plan). PlanPromise J lent (x .answer) (x .table)) e (plan-promised J lent asleep)
 
-module _ (J : Jobs) (lent : List ℕ) where
   pub answered-early : (answer : Outcome) → earlyAnswer J (length lent) ≡ some answer → PlanPromise J lent answer lent
   unfolding plan
-  answered-early answer e = by-plan J lent answer lent (plan-ended planned J lent answer e)
+  answered-early answer e = by-plan answer lent (plan-ended planned J lent answer e)
 
   pub steps-planned : (f : PlanFigures) (stepped table : List ℕ) → earlyAnswer J (length lent) ≡ none → Stepped J f stepped →
       table ≡ stepped ++ drop (J .horizon) lent → PlanPromise J lent (Planned f) table
   unfolding plan planned
   steps-planned f stepped table e s k =
-      by-plan J lent (Planned f) table
+      by-plan (Planned f) table
       (plan-goes-on planned J lent e
       ∙ ap (λ (x : PlanFigures). result (Planned x) (planTable J ++ drop (J .horizon) lent)) (sym (s .figures-are))
       ∙ ap (λ (x : List ℕ). result (Planned f) x) (ap (λ (x : List ℕ). x ++ drop (J .horizon) lent) (sym (s .bytes)) ∙ sym k))

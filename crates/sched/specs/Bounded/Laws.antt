@@ -6,9 +6,10 @@ use mathlib.Core.List.{List, [], _∷_}
 use mathlib.Core.Logic.{_⊎_, inl, inr}
 use mathlib.Core.Option.{Option, none, some}
 use native.Mathlib.Decide.{ℕ-discrete}
+use native.Mathlib.Numerals.{unary-clauses}
 use native.Mathlib.Omega.{arith}
 use lib.ListN.{length, getD}
-use Rattle.sched.specs.Bounded.{anyBelow, allBelow, sumBelow, leastFrom, lastBelow, total}
+use Rattle.sched.specs.Bounded.{anyBelow, allBelow, sumBelow, leastFrom, lastBelow, valuesFrom, total}
 
 -- a number below suc m is below m or is m
 pub lt-suc : {j m : ℕ} → j < suc m → (j < m) ⊎ (j ≡ m)
@@ -156,6 +157,19 @@ last-none (suc n) f e i l = go (f n) refl e (lt-suc l) (last-none n f)
     go true q h d ih = let z : _≡_ {A = ℕ} 0 1 = cc in absurd (omega arith)
     go false q h (inl m) ih = ih h i m
     go false q h (inr s) ih = ap f s ∙ q
+
+-- the values of a function, one by one
+
+pub values-length : {A : Type 0} (k t : ℕ) (f : ℕ → A) → length (valuesFrom k t f) ≡ k
+unfolding valuesFrom
+values-length zero t f = refl
+values-length (suc k) t f = ap suc (values-length k (suc t) f)
+
+pub values-at : {A : Type 0} (k t : ℕ) (f : ℕ → A) (i : ℕ) (d : A) → i < k → getD (valuesFrom k t f) i d ≡ f (t + i)
+unfolding valuesFrom
+values-at zero t f i d l = absurd (omega arith)
+values-at (suc k) t f zero d l = simp unary-clauses refl
+values-at (suc k) t f (suc i) d l = values-at k (suc t) f i d (omega arith) ∙ ap f (omega arith)
 
 -- sums
 

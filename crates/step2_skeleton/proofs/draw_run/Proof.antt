@@ -1,7 +1,7 @@
 -- `step2_skeleton::draw_run` meets its contract: two stretches, one behind the other.
 use mathlib.Core.Path.{ap, _∙_}
 use Rattle.sched.specs.Slots.{idle}
-use Rattle.step2_skeleton.specs.Marks.{poured}
+use Rattle.sched.specs.Buffers.{poured}
 use borrow.Author.Needs.{needs}
 use Rattle.step2_skeleton.proofs.Drawing.{run-drawn}
 use Rattle.step2_skeleton.proofs.draw_run.Statement.{statement}

@@ -35,10 +35,18 @@ static int some_runs(const struct notes *n) { return planned(n) && n->runs > 1; 
 static int many_runs(const struct notes *n) { return planned(n) && n->runs > 10; }
 static int added(const struct notes *n) { return planned(n) && n->added > 0; }
 static int none_added(const struct notes *n) { return planned(n) && n->n > 0 && n->added == 0; }
-static int idle(const struct notes *n) { return planned(n) && n->idle > 0; }
 static int passed_over(const struct notes *n) { return planned(n) && n->passed_over; }
 static int path(const struct notes *n) { return planned(n) && n->longest_path >= 3; }
 static int long_path(const struct notes *n) { return planned(n) && n->longest_path >= 8; }
+static int whole(const struct notes *n) { return planned(n) && n->stretches[WHOLE] > 0; }
+static int leading(const struct notes *n) { return planned(n) && n->stretches[LEADING] > 0; }
+static int trailing(const struct notes *n) { return planned(n) && n->stretches[TRAILING] > 0; }
+static int shorter(const struct notes *n) { return planned(n) && n->stretches[SHORTER] > 0; }
+static int just_q(const struct notes *n) { return planned(n) && n->stretches[JUST_Q] > 0; }
+static int longer(const struct notes *n) { return planned(n) && n->q > 0 && n->stretches[LONGER] > 0; }
+static int longer_than_none(const struct notes *n) { return planned(n) && n->q == 0 && n->stretches[LONGER] > 0; }
+static int put_to_sleep(const struct notes *n) { return planned(n) && n->put_to_sleep > 0; }
+static int kept_awake(const struct notes *n) { return planned(n) && n->kept_awake > 0; }
 static int skeleton_tie(const struct notes *n) { return planned(n) && n->skeleton_tie; }
 static int deadline_tie(const struct notes *n) { return planned(n) && n->deadline_tie; }
 static int several_starts(const struct notes *n) { return n->spot.kind == OVERLOAD && n->several_starts; }
@@ -49,9 +57,13 @@ static struct feature features[] = {
   { "no job", no_job, 250, 0 }, { "64 jobs", all_jobs, 85, 0 }, { "64 jobs in 4096 slots", full, 28, 0 },
   { "q 0", q_none, 250, 0 }, { "q 65535", q_most, 180, 0 },
   { "2 runs or more", some_runs, 330, 0 }, { "11 runs or more", many_runs, 65, 0 },
-  { "slots added", added, 1100, 0 }, { "none added", none_added, 70, 0 }, { "idle slots", idle, 480, 0 },
+  { "slots added", added, 1100, 0 }, { "none added", none_added, 70, 0 },
   { "a slot passed over", passed_over, 530, 0 }, { "a path over 3 jobs", path, 100, 0 }, { "a path over 8 jobs", long_path, 6, 0 },
   { "equal skeletons", skeleton_tie, 900, 0 }, { "equal deadlines", deadline_tie, 460, 0 },
+  { "no slot works", whole, 250, 0 }, { "asleep before the work", leading, 860, 0 }, { "asleep behind the work", trailing, 790, 0 },
+  { "a stretch shorter than q", shorter, 250, 0 }, { "a stretch of q slots", just_q, 45, 0 }, { "a stretch longer than q", longer, 210, 0 },
+  { "q 0, a stretch", longer_than_none, 100, 0 }, { "idle slots put to sleep", put_to_sleep, 280, 0 },
+  { "sleeping slots kept awake", kept_awake, 25, 0 },
   { "overloaded, several starts", several_starts, 380, 0 },
 };
 enum { FEATURES = sizeof features / sizeof *features };

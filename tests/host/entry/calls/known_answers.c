@@ -1,5 +1,5 @@
-/* Calls with known answers: the plans worked by hand, each refusal at the first and the last place that it can have, short buffers; and
- * buffers that share bytes. Each list is also held to the oracle (checked_call.h).
+/* Calls with known answers: the plans worked by hand, stretches about as long as a wake costs, each refusal at the first and the last place
+ * that it can have, short buffers; and buffers that share bytes. Each list is also held to the oracle (checked_call.h).
  *
  *   known_answers [heap]    with "heap" the buffers are heap blocks of just their size
  */
@@ -57,22 +57,25 @@ static void plans(const char *what, unsigned h, unsigned q, const struct job *jo
   expect(what, bytes, spell_jobs(h, q, jobs, (unsigned)n), h, plan, want);
 }
 
-/* 01, "Plans worked by hand" */
+/* 01, "Plans worked by hand", with step 5 as card 5 of 02 has it */
 static void worked_cases(void) {
   plans("case 1", 12, 3, JOB_LIST(JOB(0, 4, 2), JOB(6, 10, 2)), TABLE(255, 255, 0, 0, 254, 254, 1, 1, 255, 255, 255, 255), ANSWER(0, 9, 6, 1, 4));
-  plans("case 2", 12, 1, JOB_LIST(JOB(0, 4, 2), JOB(6, 10, 2)), TABLE(255, 255, 0, 0, 254, 254, 1, 1, 255, 255, 255, 255), ANSWER(0, 7, 6, 1, 4));
-  plans("case 3", 10, 3, JOB_LIST(JOB(0, 3, 1), JOB(8, 10, 2), JOB(0, 10, 5)), TABLE(0, 2, 2, 2, 2, 2, 255, 255, 1, 1), ANSWER(0, 14, 8, 2, 6));
-  plans("case 4", 8, 2, JOB_LIST(JOB(2, 5, 3)), TABLE(255, 255, 0, 0, 0, 254, 255, 255), ANSWER(0, 6, 4, 1, 3));
+  plans("case 2", 12, 1, JOB_LIST(JOB(0, 4, 2), JOB(6, 10, 2)), TABLE(255, 255, 0, 0, 255, 255, 1, 1, 255, 255, 255, 255), ANSWER(0, 6, 4, 2, 4));
+  plans("case 3", 10, 3, JOB_LIST(JOB(0, 3, 1), JOB(8, 10, 2), JOB(0, 10, 5)), TABLE(0, 2, 2, 2, 2, 2, 254, 254, 1, 1), ANSWER(0, 13, 10, 1, 6));
+  plans("case 3, q 2", 10, 2, JOB_LIST(JOB(0, 3, 1), JOB(8, 10, 2), JOB(0, 10, 5)), TABLE(0, 2, 2, 2, 2, 2, 255, 255, 1, 1), ANSWER(0, 12, 8, 2, 6));
+  plans("case 3, q 0", 10, 0, JOB_LIST(JOB(0, 3, 1), JOB(8, 10, 2), JOB(0, 10, 5)), TABLE(0, 2, 2, 2, 2, 2, 255, 255, 1, 1), ANSWER(0, 8, 8, 2, 6));
+  plans("case 4", 8, 2, JOB_LIST(JOB(2, 5, 3)), TABLE(255, 255, 0, 0, 0, 255, 255, 255), ANSWER(0, 5, 3, 1, 3));
   plans("case 5", 8, 1, JOB_LIST(JOB(2, 5, 4)), NULL, ANSWER(18, 2, 5, 0, 0));
   plans("case 6", 3, 1, JOB_LIST(JOB(0, 2, 2), JOB(1, 3, 2)), NULL, ANSWER(18, 0, 3, 0, 0));
   plans("case 6, volume 1", 3, 1, JOB_LIST(JOB(0, 2, 2), JOB(1, 3, 1)), TABLE(0, 0, 1), ANSWER(0, 4, 3, 1, 2));
   plans("case 7", 2, 1, JOB_LIST(JOB(0, 2, 1), JOB(0, 2, 1)), TABLE(0, 1), ANSWER(0, 3, 2, 1, 1));
   plans("case 8", 1, 1, NO_JOBS, TABLE(255), ANSWER(0, 0, 0, 0, 0));
   plans("case 9", 1, 65535, JOB_LIST(JOB(0, 1, 1)), TABLE(0), ANSWER(0, 65536, 1, 1, 0));
+  plans("three runs", 5, 1, JOB_LIST(JOB(0, 1, 1), JOB(2, 4, 1), JOB(4, 5, 1)), TABLE(0, 255, 1, 255, 2), ANSWER(0, 6, 3, 3, 2));
   plans("H 4096", 4096, 1, NO_JOBS, NULL, ANSWER(0, 0, 0, 0, 0));
   plans("H 4097", 4097, 1, NO_JOBS, NULL, ANSWER(12, 0, 0, 0, 0));
   plans("(4,4,1)", 8, 1, JOB_LIST(JOB(4, 4, 1)), NULL, ANSWER(15, 0, 0, 0, 0));
-  plans("(3,4,1)", 8, 1, JOB_LIST(JOB(3, 4, 1)), TABLE(255, 255, 255, 0, 254, 255, 255, 255), ANSWER(0, 3, 2, 1, 1));
+  plans("(3,4,1)", 8, 1, JOB_LIST(JOB(3, 4, 1)), TABLE(255, 255, 255, 0, 255, 255, 255, 255), ANSWER(0, 2, 1, 1, 1));
   plans("(0,4,0)", 8, 1, JOB_LIST(JOB(0, 4, 0)), NULL, ANSWER(26, 0, 0, 0, 0));
   plans("(4,4,0)", 8, 1, JOB_LIST(JOB(4, 4, 0)), NULL, ANSWER(15, 0, 0, 0, 0));
   plans("(9,9,0)", 8, 1, JOB_LIST(JOB(9, 9, 0)), NULL, ANSWER(25, 0, 0, 0, 0));
@@ -80,6 +83,20 @@ static void worked_cases(void) {
   plans("15 of a lower job", 8, 1, JOB_LIST(JOB(8, 8, 1), JOB(0, 9, 1)), NULL, ANSWER(15, 0, 0, 0, 0));
   plans("d = H", 8, 1, JOB_LIST(JOB(0, 8, 1)), TABLE(255, 255, 255, 255, 255, 255, 255, 0), ANSWER(0, 2, 1, 1, 0));
   plans("d = H + 1", 8, 1, JOB_LIST(JOB(0, 9, 1)), NULL, ANSWER(25, 0, 0, 0, 0));
+}
+
+/* 02, card 5: n slots between two that work, and a wake cost of one less, just as many, one more. The skeleton is slots 1 to n, and slots 0 and
+ * n + 1 are woken. */
+static void stretches(void) {
+  static const unsigned lengths[] = { 1, 2, 3, 254, 255, 256, 257, 4093, 4094 };
+  static uint8_t table[MOST_SLOTS];
+  for (size_t i = 0; i < sizeof lengths / sizeof *lengths; i++)
+    for (unsigned n = lengths[i], q = n - 1; q <= n + 1; q++) {
+      memset(table, n < q ? 254 : 255, sizeof table);
+      table[0] = 0; table[n + 1] = 1;
+      plans("a stretch", n + 2, q, JOB_LIST(JOB(0, 1, 1), JOB(n + 1, n + 2, 1)), table,
+            n < q ? ANSWER(0, n + 2 + q, n + 2, 1, 2) : ANSWER(0, 2 + 2 * q, 2, 2, 2));
+    }
 }
 
 /* A list of 453 bytes, in which each field of each job stands. */
@@ -193,6 +210,7 @@ int main(int argc, char **argv) {
   report_signals();
   draw_for(0, 0);
   worked_cases();
+  stretches();
   refused_bytes();
   short_buffers();
   overloads();

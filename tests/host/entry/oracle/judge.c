@@ -5,6 +5,18 @@ uint32_t block_number(const uint8_t *block, int i) {
   return p[0] | (uint32_t)p[1] << 8 | (uint32_t)p[2] << 16 | (uint32_t)p[3] << 24;
 }
 
+/* The least energy of a table with the same working slots, slot by slot: when the last slot is asleep, and when it is awake. */
+static uint64_t least_energy(const struct list *l, const uint8_t *table) {
+  const uint64_t never = UINT32_MAX;
+  uint64_t asleep = 0, awake = never;
+  for (unsigned t = 0; t < l->h; t++) {
+    uint64_t up = (awake < asleep + l->q ? awake : asleep + l->q) + 1, down = awake < asleep ? awake : asleep;
+    awake = up;
+    asleep = table[t] < JOBS ? never : down;
+  }
+  return awake < asleep ? awake : asleep;
+}
+
 static const char *judge_table(const struct list *l, const uint8_t *table, const uint8_t *block) {
   unsigned stands[JOBS] = {0};
   uint32_t awake = 0, runs = 0;
@@ -21,6 +33,7 @@ static const char *judge_table(const struct list *l, const uint8_t *table, const
   for (unsigned j = 0; j < l->n; j++) if (stands[j] != l->job[j].p) return "a job that does not have its volume";
   if (block_number(block, 0) != awake + l->q * runs) return "an energy that is not the table's";
   if (block_number(block, 1) != awake || block_number(block, 2) != runs) return "awake slots or runs that are not the table's";
+  if (block_number(block, 0) != least_energy(l, table)) return "a table that costs more than its working slots ask for";
   return NULL;
 }
 

@@ -1,5 +1,5 @@
 /* Whether an answer 0 or 18 keeps its promise, by the definitions of feasible table, energy and overloaded interval alone, with no plan to
- * compare. */
+ * compare; and by 02, card 5, that no table with the same working slots costs less. */
 #ifndef JUDGE_H
 #define JUDGE_H
 #include "list.h"

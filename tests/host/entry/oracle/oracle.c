@@ -47,18 +47,21 @@ static int overload(int *a, int *b) {
 static int window_first(int j) { return jobs[j].r > 0 ? jobs[j].r - 1 : 0; }
 static int window_last(int j) { return jobs[j].d < H ? jobs[j].d : H - 1; }
 
+/* A set of few slots is a number, slot 0 in its highest bit. */
+static long energy_of_few(unsigned set) { return __builtin_popcount(set) + (long)Q * __builtin_popcount(set & ~(set >> 1)); }
+
 static int is_skeleton(unsigned set, const unsigned *windows) {
   for (int j = 0; j < N; j++) if (!(set & windows[j])) return 0;
   return 1;
 }
 
-/* Step 2 for few slots: every set, slot 0 in the highest bit, so that the numbers rise in the order of the tie rule. */
+/* Step 2 for few slots: every set; the numbers rise in the order of the tie rule. */
 static void skeleton_of_few(struct slots *skeleton) {
   unsigned windows[JOBS] = {0}, best = 0;
   long least_energy = -1;
   for (int j = 0; j < N; j++) for (int t = window_first(j); t <= window_last(j); t++) windows[j] |= 1u << (H - 1 - t);
   for (unsigned set = 0; set < 1u << H; set++) {
-    long energy = __builtin_popcount(set) + (long)Q * __builtin_popcount(set & ~(set >> 1));
+    long energy = energy_of_few(set);
     if ((least_energy >= 0 && energy > least_energy) || !is_skeleton(set, windows)) continue;
     noted->skeleton_tie = energy == least_energy;
     if (energy == least_energy) continue;
@@ -204,7 +207,7 @@ static int extend(const struct slots *skeleton) {
   return contradiction ? NONE : added;
 }
 
-/* Steps 4 and 5. */
+/* Step 4. */
 static void fill(uint8_t *table) {
   int left[JOBS];
   for (int j = 0; j < N; j++) left[j] = jobs[j].p;
@@ -216,8 +219,41 @@ static void fill(uint8_t *table) {
       if (best == NONE || jobs[j].d < jobs[best].d) { best = j; tie = 0; } else tie |= jobs[j].d == jobs[best].d;
     }
     noted->deadline_tie |= tie;
-    if (best == NONE) { table[t] = 254; noted->idle++; } else { table[t] = (uint8_t)best; left[best]--; }
+    if (best == NONE) table[t] = 254; else { table[t] = (uint8_t)best; left[best]--; }
   }
+}
+
+static int works(const uint8_t *table, int t) { return table[t] < JOBS; }
+
+/* What kind of stretch lies between the working slots a and b. */
+static enum stretch stretch(int a, int b) {
+  if (a == NONE) return b == NONE ? WHOLE : LEADING;
+  return b == NONE ? TRAILING : b - a > Q + 1 ? LONGER : b - a == Q + 1 ? JUST_Q : SHORTER;
+}
+
+/* Step 5 as card 5 of 02 has it, for each slot by itself: before[t] and after[t] are the nearest working slots on its two sides. What step 4
+ * left there, idle or asleep, is only noted. */
+static void sleep_rule(uint8_t *table) {
+  static int before[MOST_SLOTS], after[MOST_SLOTS];
+  for (int t = 0, near = NONE; t < H; t++) { before[t] = near; if (works(table, t)) near = t; }
+  for (int t = H - 1, near = NONE; t >= 0; t--) { after[t] = near; if (works(table, t)) near = t; }
+  for (int t = 0; t < H; t++) {
+    if (works(table, t)) continue;
+    int a = before[t], b = after[t], was = table[t];
+    if (a == NONE || b == NONE) table[t] = 255; /* "Before the first and after the last working slot the processor sleeps" */
+    else table[t] = b - a - 1 < Q ? 254 : 255;  /* "stays awake if it is shorter than q, and sleeps if it is q or longer" */
+    if (t == a + 1) noted->stretches[stretch(a, b)]++;
+    noted->put_to_sleep += was < table[t];
+    noted->kept_awake += was > table[t];
+  }
+}
+
+/* Whether no set of few slots that has the working ones costs less than the table: every set is tried. */
+static int cheapest_of_few(const uint8_t *table) {
+  unsigned working = 0, chosen = 0;
+  for (int t = 0; t < H; t++) { working = working << 1 | (unsigned)works(table, t); chosen = chosen << 1 | (table[t] != 255); }
+  for (unsigned set = working; set < 1u << H; set = (set + 1) | working) if (energy_of_few(set) < energy_of_few(chosen)) return 0;
+  return 1;
 }
 
 static void put(uint8_t *block, uint32_t w, uint32_t x, uint32_t y, uint32_t z) {
@@ -242,7 +278,9 @@ static uint32_t plan(uint8_t *table, size_t table_len, uint8_t *block, size_t bl
   noted->added = extend(&skeleton);
   if (noted->added == NONE) return 99; /* never: step 3 finds its slot, and the witness holds */
   fill(table);
-  for (int t = 0; t < H; t++) if (has(&awake, t)) { awake_slots++; noted->runs += t == 0 || !has(&awake, t - 1); }
+  sleep_rule(table);
+  if (H <= FEW && !cheapest_of_few(table)) return 99; /* never: no table with the same working slots costs less */
+  for (int t = 0; t < H; t++) if (table[t] != 255) { awake_slots++; noted->runs += t == 0 || table[t - 1] == 255; }
   put(block, (uint32_t)awake_slots + (uint32_t)Q * (uint32_t)noted->runs, (uint32_t)awake_slots, (uint32_t)noted->runs, (uint32_t)noted->added);
   noted->spot = spot(PLANNED, above(table_len, (size_t)H), above(block_len, 16));
   return 0;

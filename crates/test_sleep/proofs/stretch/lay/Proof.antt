@@ -1,18 +1,22 @@
--- `step2_skeleton::fill` meets its contract: a byte a turn joins the stretch.
+-- `stretch::lay` is safe and ends: the table keeps its length.
 use Prim.Native.Nat.{_-_}
+use mathlib.Core.Path.{_≡_}
+use lib.ListN.{length}
 use borrow.Author.Needs.{needs}
-use Rattle.step2_skeleton.proofs.Drawing.{Poured, poured-start, poured-turn, poured-end}
-use Rattle.step2_skeleton.proofs.fill.Statement.{statement}
-use Rattle.step2_skeleton.proofs.fill.Tie as tie
+use Rattle.test_sleep.proofs.stretch.lay.Statement.{statement}
+use Rattle.test_sleep.proofs.stretch.lay.Tie as tie
 
 abbrev Inv-loop : tie.InvT-loop
-Inv-loop table₀ from to byte t₀ table t = Poured table₀ from to byte table t
+Inv-loop g table₀ t₀ table t = length table ≡ length table₀
 
 abbrev μ-loop : tie.MeasureT-loop
-μ-loop table₀ from to byte t₀ table t = to - t
+μ-loop g table₀ t₀ table t = length table₀ - t
 
 loop-holds : tie.Need-loop-holds Inv-loop μ-loop
-loop-holds c = poured-start _ _ _ _ (c .pre .0) (c .pre .1)
+loop-holds c = search needs
+
+slot-requires : tie.Need-slot-requires Inv-loop μ-loop
+slot-requires c κs = search needs
 
 slice-write-table : tie.Need-slice-write-table Inv-loop μ-loop
 slice-write-table c = search needs
@@ -24,21 +28,22 @@ loop-less : tie.Need-loop-less Inv-loop μ-loop
 loop-less c = search needs
 
 loop-again : tie.Need-loop-again Inv-loop μ-loop
-loop-again c = poured-turn _ _ _ _ _ _ (c .loop-test .taken) (c .before .loop .inv)
+loop-again c = search needs
 
 same-length : tie.Need-same-length Inv-loop μ-loop
 same-length c = search needs
 
 returns : tie.Need-returns Inv-loop μ-loop
-returns c = poured-end _ _ _ _ _ _ (c .loop-test .left) (c .before .loop .inv)
+returns c = search needs
 
-pub fill-spec : {M : Type 1} → statement M
-fill-spec =
+pub lay-spec : {M : Type 1} → statement M
+lay-spec =
     tie.close
     (tie.spec
     Inv-loop
     μ-loop
     loop-holds
+    slot-requires
     slice-write-table
     add-t
     loop-less

@@ -1,0 +1,2 @@
+-- What the pass over the table goes by.
+pub mod Settling

@@ -1,0 +1,44 @@
+// Step 5, after card 5 of 02: the slots in which no job runs stay awake or go to sleep. It asks for a table and a wake cost, not for a list.
+ghost use mathlib.Core.Path.{_≡_};
+ghost use mathlib.Core.Option.{some};
+ghost use Prim.Native.Nat.{_≤_};
+ghost use Rattle.sched.specs.Slots.{markByte};
+ghost use Rattle.sched.specs.Sleep.{staysAwake, sleepRule};
+ghost use Rattle.step5_sleep.specs.Settling.{workEnding};
+use sched::ASLEEP;
+use sched::IDLE;
+
+// The byte of the stretch of slots from `from` up to the working slot `to`. The slot before `from` works, unless `from` is 0.
+fn byte_between(q: u16, from: usize, to: usize) -> u8
+    requires { ⌜ from ≤ to ⌝ }
+    ensures { λ r. ⌜ r ≡ markByte (staysAwake q (workEnding from) (some to)) ⌝ }
+{
+    if from == 0 {
+        return ASLEEP;
+    }
+    if to - from < q as usize {
+        return IDLE;
+    }
+    ASLEEP
+}
+
+// The table after the rule: working slots (bytes below 64) as they are, every other slot idle or asleep.
+pub fn sleep(q: u16, table: &mut [u8])
+    ensures { λ _. ⌜ now (table .exit) ≡ sleepRule q (now (table .entry)) ⌝ }
+{
+    let h = table.len();
+    // the slot behind the last working one, 0 before there is one
+    let mut from = 0;
+    let mut t = 0;
+    while t < h {
+        if table[t] < 64 {
+            let byte = byte_between(q, from, t);
+            sched::fill(table, from, t, byte);
+            t += 1;
+            from = t;
+        } else {
+            t += 1;
+        }
+    }
+    sched::fill(table, from, h, ASLEEP);
+}
