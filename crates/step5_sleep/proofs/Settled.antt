@@ -78,8 +78,8 @@ module _ {q h : ℕ} {table₀ table : List ℕ} {from t : ℕ} (s : Settled q h
         length-replicate (t - from) byte,
       )
 
-  pub settled-rest : t < h → works (getD table t 0) ≡ false → Settled q h table₀ table from (t + 1)
-  settled-rest l w = record {
+  pub settled-rest : t < h → 64 ≤ getD table t 0 → Settled q h table₀ table from (t + 1)
+  settled-rest l high = record {
     long = s .long;
     begun = omega (arith, s .begun);
     within = omega arith;
@@ -89,9 +89,9 @@ module _ {q h : ℕ} {table₀ table : List ℕ} {from t : ℕ} (s : Settled q h
     where
       go : (i : ℕ) → from ≤ i → (i < t) ⊎ (i ≡ t) → works (getD table i 0) ≡ false
       go i a (inl m) = s .quiet i a m
-      go i a (inr e) = rw e w
+      go i a (inr e) = rw e (le-ltb (getD table t 0) 64 high)
 
-  module _ {byte : ℕ} {table′ : List ℕ} (l : t < h) (w : works (getD table t 0) ≡ true)
+  module _ {byte : ℕ} {table′ : List ℕ} (l : t < h) (low : getD table t 0 < 64)
       (e : byte ≡ markByte (staysAwake q (workEnding from) (some t))) (same : length table′ ≡ length table) (p : table′ ≡ poured from t byte table) where
     abbrev job : ℕ
     job = getD table t 0
@@ -101,6 +101,9 @@ module _ {q h : ℕ} {table₀ table : List ℕ} {from t : ℕ} (s : Settled q h
 
     abbrev front : List ℕ
     front = take from table ++ replicate (t - from) byte
+
+    w : works job ≡ true
+    w = lt-ltb job 64 low
 
     cut : drop t table ≡ job ∷ rest
     cut = drop-cons table t 0 (omega (arith, s .long))

@@ -1,6 +1,6 @@
 -- `sleep` meets its contract: each working slot closes the stretch before it, and the last stretch sleeps.
 use Prim.Native.Nat.{_-_}
-use borrow.Author.Tests.{lt-ltb, le-ltb}
+use native.Mathlib.Omega.{arith}
 use borrow.Author.Needs.{needs}
 use Rattle.step5_sleep.proofs.Settled.{Settled, settled-start, settled-rest, settled-work, settled-end}
 use Rattle.step5_sleep.proofs.sleep.Statement.{statement}
@@ -35,7 +35,7 @@ loop-again c =
     let filled = c .before .before in
     let works-here = filled .before .before .before in
     let turn = works-here .before in
-    settled-work (turn .before .before .loop .inv) (turn .before .loop-test .taken) (lt-ltb _ 64 (works-here .if1 .taken))
+    settled-work (turn .before .before .loop .inv) (turn .before .loop-test .taken) (omega (arith, works-here .if1 .taken))
     (filled .before .before .byte-between .ensures) (filled .fill .kept .0) (filled .fill .ensures)
 
 add-t-2 : tie.Need-add-t-2 Inv-loop μ-loop
@@ -47,7 +47,7 @@ loop-less-2 c = search needs
 loop-again-2 : tie.Need-loop-again-2 Inv-loop μ-loop
 loop-again-2 c =
     let turn = c .before in
-    settled-rest (turn .before .before .loop .inv) (turn .before .loop-test .taken) (le-ltb _ 64 (c .if1 .left))
+    settled-rest (turn .before .before .loop .inv) (turn .before .loop-test .taken) (omega (arith, c .if1 .left))
 
 fill-requires-2 : tie.Need-fill-requires-2 Inv-loop μ-loop
 fill-requires-2 c κs = search needs
