@@ -220,6 +220,10 @@ work-stays J =
     let table = tableOf J (extended J) in
     record { same = plan-working J; jobs = working-kept (J .wake) table; others = others-rest (J .wake) table }
 
--- Before the card step 5 left step 4's table as it was: no plan costs more than then.
-pub never-dearer : (J : Jobs) → J .start ≡ false → energy J (awakeOf (planTable J)) ≤ energy J (awakeOf (tableOf J (extended J)))
-never-dearer J start = plan-cheapest J (tableOf J (extended J)) start (sym (plan-working J))
+-- the plan's table before card 5, here to be compared with: 01's step 5 left every slot as step 4 had it
+abbrev pub tableBefore : Jobs → List ℕ
+tableBefore J = tableOf J (extended J)
+
+-- no plan costs more than then
+pub never-dearer : (J : Jobs) → J .start ≡ false → energy J (awakeOf (planTable J)) ≤ energy J (awakeOf (tableBefore J))
+never-dearer J start = plan-cheapest J (tableBefore J) start (sym (plan-working J))
