@@ -10,8 +10,8 @@
 #include <string.h>
 #include <time.h>
 
-enum { FAMILIES = 10, SIZES = 4, PLACES = 4, STACK = 1 << 20, ROUNDS = 20 };
-static const char *family_name[FAMILIES] = {"one", "nested", "tiled", "loose", "random", "no job", "volume 1", "overload", "q 0", "q 65535"};
+enum { FAMILIES = 11, SIZES = 4, PLACES = 4, STACK = 1 << 20, ROUNDS = 20 };
+static const char *family_name[FAMILIES] = {"one", "nested", "tiled", "loose", "random", "no job", "volume 1", "overload", "q 0", "q 65535", "tied"};
 static const int sizes[SIZES] = {512, 1024, 2048, 4096};
 
 static uint32_t seed;
@@ -35,6 +35,7 @@ static void make(int f, int h) {
     if (f == 0) { r = 0; d = h; p = h; }
     else if (f == 1) { r = i * h / 160; d = h - i * h / 160; p = h / 80; }
     else if (f == 2) { r = i * (h / 64); d = r + h / 64; p = h / 128; }
+    else if (f == 10) { r = (63 - i) * h / 80; d = h; p = h / 90; }
     else if (f == 3) { r = below(h / 4); d = h - below(h / 4); p = h / 70; }
     else { r = below(h); d = r + 1 + below(h - r); p = f == 6 ? 1 : 1 + below((d - r + 39) / 40); }
     l.job[i] = (struct job){ (unsigned)r, (unsigned)d, (unsigned)p, 0 };

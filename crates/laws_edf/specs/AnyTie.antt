@@ -1,12 +1,11 @@
--- Whatever is done on equal deadlines: runs that serve some eligible job of earliest deadline at each awake slot serve equally many units,
--- also within their first slots, and so they work in the same slots.
-use Prim.Native.Nat.{ℕ, zero, suc, _+_, _≤_}
+-- Whatever is done on equal deadlines: runs that serve some eligible job of earliest deadline at each awake slot serve equally many units.
+use Prim.Native.Nat.{ℕ, suc, _+_, _≤_}
 use mathlib.Core.Path.{_≡_, refl, ap, sym, _∙_}
 use mathlib.Core.Bool.{Bool, true}
 use mathlib.Core.List.{List, [], _∷_}
 use mathlib.Core.Option.{Option, none, some}
 use native.Mathlib.Omega.{arith}
-use lib.ListN.{length, take}
+use lib.ListN.{length}
 use Rattle.laws_edf.specs.Run.{Spans, State, Eligible, chosen, after, gain, vol}
 use Rattle.laws_edf.specs.Pick.{View, view}
 use Rattle.laws_edf.specs.Exchange.{any-earliest}
@@ -24,13 +23,6 @@ EarliestFirst F S t L (o ∷ rest) = Sooner F (S t) t L o × EarliestFirst F S (
 unfoldable pub gains : List (Option ℕ) → ℕ
 gains [] = 0
 gains (o ∷ rest) = gain o + gains rest
-
--- the first slots of such a run are such a run
-pub first-slots : (F : Spans) (S : ℕ → Bool) (i t : ℕ) (L : State) (os : List (Option ℕ)) → EarliestFirst F S t L os → EarliestFirst F S t L (take i os)
-first-slots F S zero t L [] c = tt
-first-slots F S zero t L (o ∷ rest) c = tt
-first-slots F S (suc i) t L [] c = tt
-first-slots F S (suc i) t L (o ∷ rest) c = (c .0, first-slots F S i (suc t) (after L o) rest (c .1))
 
 module _ (F : Spans) (S : ℕ → Bool) (h t : ℕ) (L : State) where
   idle-by : (b : Bool) (y : Option ℕ) → Sooner F b t L none → View F b t L y → gain y + vol F S h (suc t) (after L y) ≡ vol F S h (suc t) L

@@ -1,11 +1,11 @@
 -- What is left along the run: it only falls, a job is served in its own slots only, and what is served is no longer left.
 use Prim.Native.Nat.{ℕ, zero, suc, _+_, _≤_, _<_}
 use mathlib.Core.Path.{_≡_, refl, ap, sym, _∙_}
-use mathlib.Core.Bool.{Bool, true, false}
+use mathlib.Core.Bool.{Bool, false}
 use mathlib.Core.Option.{Option, none, some}
 use native.Mathlib.Omega.{arith}
 use native.Mathlib.Decide.{ℕ-discrete, le-ind}
-use Rattle.laws_edf.specs.Run.{Spans, State, Eligible, pick, chosen, lowered, after, gain, vol, final, left, allUnits}
+use Rattle.laws_edf.specs.Run.{Spans, State, Eligible, chosen, lowered, after, gain, vol, final, left, allUnits}
 use Rattle.laws_edf.specs.Pick.{View, view}
 use Rattle.laws_edf.specs.Units.{OneMore, lowered-less, lowered-elsewhere, less-everywhere, sum-one-more}
 
@@ -59,10 +59,6 @@ module _ (F : Spans) (S : ℕ → Bool) (p : State) where
   unfolding left chosen
   left-asleep t e = rw (e, left, chosen)
 
-  pub left-awake : (t : ℕ) → S t ≡ true → left F S p (suc t) ≡ after (left F S p t) (pick F t (left F S p t))
-  unfolding left chosen
-  left-awake t e = rw (e, left, chosen)
-
   left-step : (t j : ℕ) → left F S p (suc t) j ≤ left F S p t j
   unfolding left
   left-step t j =
@@ -76,12 +72,6 @@ module _ (F : Spans) (S : ℕ → Bool) (p : State) where
   pub left-falls : (t T j : ℕ) → t ≤ T → left F S p T j ≤ left F S p t j
   left-falls t T j l =
       le-ind (λ m. left F S p m j ≤ left F S p t j) (omega arith) (λ m q ih. omega (arith, left-step m j)) T l
-
-  -- units past their deadline stay left: they are lost
-  pub left-past-deadline : (t T j : ℕ) → F .d j ≤ t → t ≤ T → left F S p T j ≡ left F S p t j
-  left-past-deadline t T j d l =
-      le-ind (λ m. left F S p m j ≡ left F S p t j) refl
-      (λ m q ih. left-kept m j (λ e. omega (arith, e .before)) ∙ ih) T l
 
   pub left-unreleased : (t j : ℕ) → t ≤ F .r j → left F S p t j ≡ p j
   unfolding left

@@ -17,7 +17,9 @@ pub mod Helping
 pub mod Shortage
 pub mod Touching
 pub mod Rules
+pub mod GoesOn
 pub mod Table
+pub mod WorkAlike
 pub mod FromState
 pub mod Whole
 pub mod Sets

@@ -1,21 +1,23 @@
 -- Rules of step 4 that take a released, unfinished job of earliest deadline wherever there is one. Which of several they take is left open.
 use Prim.Native.Nat.{ℕ, _≤_, _<_}
 use mathlib.Core.Path.{_≡_}
-use mathlib.Core.Bool.{true, false}
+use mathlib.Core.Bool.{Bool, true, false}
 use mathlib.Core.List.{List}
 use mathlib.Core.Option.{Option, none, some}
 use Rattle.sched.specs.Jobs.{Jobs, count, deadline}
 use Rattle.sched.specs.Table.{Rule, runnable}
 
-pub record Urgent (J : Jobs) (t : ℕ) (left : List ℕ) (k : ℕ) : Type 0 where
-  pub below : k < count J
-  pub able : runnable J t left k ≡ true
-  pub first : (j : ℕ) → j < count J → runnable J t left j ≡ true → deadline J k ≤ deadline J j
+-- k is one of the jobs below n of which f holds, and none of these has an earlier deadline d
+pub record Soonest (d : ℕ → ℕ) (f : ℕ → Bool) (n k : ℕ) : Type 0 where
+  pub below : k < n
+  pub holds : f k ≡ true
+  pub first : (j : ℕ) → j < n → f j ≡ true → d k ≤ d j
 
--- what such a rule may give
-abbrev pub Takes : Jobs → ℕ → List ℕ → Option ℕ → Type 0
-Takes J t left none = (j : ℕ) → j < count J → runnable J t left j ≡ false
-Takes J t left (some k) = Urgent J t left k
+-- one of them, where there is one
+abbrev pub OneOf : (ℕ → ℕ) → (ℕ → Bool) → ℕ → Option ℕ → Type 0
+OneOf d f n none = (j : ℕ) → j < n → f j ≡ false
+OneOf d f n (some k) = Soonest d f n k
 
+-- whatever it is given, the rule takes one of the released, unfinished jobs of earliest deadline, where there is one
 abbrev pub EarliestRule : Jobs → Rule → Type 0
-EarliestRule J rule = (t : ℕ) (left : List ℕ) (latest : Option ℕ) → Takes J t left (rule t left latest)
+EarliestRule J rule = (t : ℕ) (left : List ℕ) (latest : Option ℕ) → OneOf (deadline J) (runnable J t left) (count J) (rule t left latest)

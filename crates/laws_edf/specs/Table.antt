@@ -19,26 +19,26 @@ use Rattle.sched.specs.Feasible.{OwnSlot, Feasible}
 use Rattle.sched.specs.Table.{Rule, runnable, choice, runByte, serve, latestOf, fillBy}
 use Rattle.sched.specs.Workable.{lower}
 use Rattle.laws_edf.specs.Run.{State, Eligible, spans, chosen, lowered, after, gain, vol, final, allUnits}
-use Rattle.laws_edf.specs.Rules.{Urgent, Takes, EarliestRule}
-use Rattle.laws_edf.specs.Pick.{EarliestView, earliest-view}
+use Rattle.laws_edf.specs.Rules.{Soonest, OneOf, EarliestRule}
+use Rattle.laws_edf.specs.GoesOn.{goes-on-one}
 use Rattle.laws_edf.specs.Units.{lowered-there, lowered-elsewhere, lowered-less, sum-one-more}
 use Rattle.laws_edf.specs.Left.{served-and-left, final-late}
 use Rattle.laws_edf.specs.AnyTie.{Sooner, sooner-step}
 use Rattle.laws_edf.specs.Search.{stateOf, state-lowered, Reads, reads-head, reads-tail}
 use Rattle.laws_edf.specs.Find.{part-positive}
 
--- The rule of 01 is one of them.
+-- The rule of step 4 is one of them.
 pub choice-earliest : (J : Jobs) → EarliestRule J (choice J)
-choice-earliest J t left latest = go (choice J t left latest) (earliest-view (deadline J) (runnable J t left) (count J))
-  where
-    go : (o : Option ℕ) → EarliestView (deadline J) (runnable J t left) (count J) o → Takes J t left o
-    go none v = v
-    go (some k) v = record { below = v .below; able = v .holds; first = λ j l r. omega (arith, v .first j l r .sooner) }
+choice-earliest J t left latest = goes-on-one (deadline J) (runnable J t left) (count J) latest
 
-module _ (J : Jobs) (few : count J ≤ 254) (rule : Rule) (ok : EarliestRule J rule) where
+module _ (J : Jobs) (few : count J ≤ 64) (rule : Rule) (ok : EarliestRule J rule) where
   -- The set is kept
 
-  byte-awake : (t : ℕ) (l : List ℕ) (o : Option ℕ) → Takes J t l o → not (eqb (runByte o) asleep) ≡ true
+  -- what the rule may give
+  abbrev Takes : ℕ → List ℕ → Option ℕ → Type 0
+  Takes t l o = OneOf (deadline J) (runnable J t l) (count J) o
+
+  byte-awake : (t : ℕ) (l : List ℕ) (o : Option ℕ) → Takes t l o → not (eqb (runByte o) asleep) ≡ true
   byte-awake t l none v = refl
   byte-awake t l (some k) v = rw (ne-eqb k 255 (omega (arith, v .below)))
 
@@ -74,9 +74,9 @@ module _ (J : Jobs) (few : count J ≤ 254) (rule : Rule) (ok : EarliestRule J r
             )
             )
 
-    able : (rest : List Bool) (t : ℕ) (l : List ℕ) (k : ℕ) → Full rest t l → Urgent J t l k → Eligible (spans J) t (stateOf l) k
+    able : (rest : List Bool) (t : ℕ) (l : List ℕ) (k : ℕ) → Full rest t l → Soonest (deadline J) (runnable J t l) (count J) k → Eligible (spans J) t (stateOf l) k
     able rest t l k full u =
-        let (released, unit) = and-true _ _ (u .able) in
+        let (released, unit) = and-true _ _ (u .holds) in
         record {
           below = u .below;
           released = leb-true _ _ released;
@@ -88,7 +88,7 @@ module _ (J : Jobs) (few : count J ≤ 254) (rule : Rule) (ok : EarliestRule J r
     runs t l j e = simp (le-leb _ _ (e .released), lt-ltb _ _ (e .unit))
 
     -- the rule's job is one that a run of earliest deadline first may serve
-    sooner : (rest : List Bool) (t : ℕ) (l : List ℕ) (o : Option ℕ) → S t ≡ true → Full rest t l → Takes J t l o → Sooner (spans J) (S t) t (stateOf l) o
+    sooner : (rest : List Bool) (t : ℕ) (l : List ℕ) (o : Option ℕ) → S t ≡ true → Full rest t l → Takes t l o → Sooner (spans J) (S t) t (stateOf l) o
     sooner rest t l none w full v = λ _ j e. true-not-false (runnable J t l j) (runs t l j e) (v j (e .below))
     sooner rest t l (some k) w full v = (w, able rest t l k full v, λ j e. v .first j (e .below) (runs t l j e))
 
@@ -205,6 +205,23 @@ module _ (J : Jobs) (few : count J ≤ 254) (rule : Rule) (ok : EarliestRule J r
         by-choice rest t l (fillBy rule (suc t) (serve l o) (latestOf o latest) rest) o v
         (fill-has-all rest (suc t) (serve l o) (latestOf o latest) (reads-tail S t true rest e) (full-awake rest t l o full v))
 
+    -- A rule that agrees with this one while no unfinished job is past its deadline gives the same table.
+    fill-alike : (other : Rule) →
+        ((t : ℕ) (l : List ℕ) (latest : Option ℕ) → ((j : ℕ) → j < count J → 0 < stateOf l j → t < deadline J j) → rule t l latest ≡ other t l latest) →
+        (rest : List Bool) (t : ℕ) (l : List ℕ) (latest : Option ℕ) → Reads S t rest → Full rest t l → fillBy rule t l latest rest ≡ fillBy other t l latest rest
+    unfolding fillBy
+    fill-alike other agree [] t l latest e full = refl
+    fill-alike other agree (false ∷ rest) t l latest e full =
+        ap (λ (x : List ℕ). asleep ∷ x)
+        (fill-alike other agree rest (suc t) l latest (reads-tail S t false rest e) (full-asleep rest t l (reads-head S t false rest e) full))
+    fill-alike other agree (true ∷ rest) t l latest e full =
+        let o = rule t l latest in
+        let v = sooner (true ∷ rest) t l o (reads-head S t true rest e) full (ok t l latest) in
+        ap (λ (x : List ℕ). runByte o ∷ x)
+        (fill-alike other agree rest (suc t) (serve l o) (latestOf o latest) (reads-tail S t true rest e) (full-awake rest t l o full v))
+        ∙ ap (λ (x : Option ℕ). runByte x ∷ fillBy other (suc t) (serve l x) (latestOf x latest) rest)
+        (agree t l latest (λ j m u. in-time (true ∷ rest) t l j full m u))
+
   -- Where all volume can be worked in a set of H slots, the table is feasible.
   pub fill-feasible : (S : List Bool) (T : ℕ → Bool) → length S ≡ J .horizon → Reads T 0 S →
       vol (spans J) T (length S) 0 (volume J) ≡ allUnits (spans J) (volume J) → Feasible J (fillBy rule 0 (J .volumes) none S)
@@ -217,3 +234,11 @@ module _ (J : Jobs) (few : count J ≤ 254) (rule : Rule) (ok : EarliestRule J r
         own = λ t l k. let e : 0 + t ≡ t = omega arith in rw e at (h .own t (rw long l) k);
         exact = h .exact;
       }
+
+  -- Then any rule that agrees with this one while no unfinished job is past its deadline gives the same table.
+  pub fill-same : (other : Rule) →
+      ((t : ℕ) (l : List ℕ) (latest : Option ℕ) → ((j : ℕ) → j < count J → 0 < stateOf l j → t < deadline J j) → rule t l latest ≡ other t l latest) →
+      (S : List Bool) (T : ℕ → Bool) → Reads T 0 S → vol (spans J) T (length S) 0 (volume J) ≡ allUnits (spans J) (volume J) →
+      fillBy rule 0 (J .volumes) none S ≡ fillBy other 0 (J .volumes) none S
+  unfolding Full
+  fill-same other agree S T reads full = fill-alike T other agree S 0 (J .volumes) none reads full

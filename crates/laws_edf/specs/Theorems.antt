@@ -6,9 +6,9 @@ use mathlib.Core.Path.{_≡_, sym, ap, _∙_}
 use mathlib.Core.Bool.{Bool, true, false}
 use mathlib.Core.List.{List}
 use mathlib.Core.Logic.{_⊎_, _↔_}
-use mathlib.Core.Option.{none, some}
+use mathlib.Core.Option.{Option, none, some}
 use native.Mathlib.Omega.{arith}
-use lib.ListN.{length, replicate, length-replicate, getD-replicate}
+use lib.ListN.{length, getD, replicate, length-replicate, getD-replicate}
 use Rattle.sched.specs.Bounded.Laws.{by-bool, true-not-false, sum-term}
 use Rattle.sched.specs.Jobs.{Jobs, count, release, deadline, volume, totalVolume}
 use Rattle.sched.specs.Checks.{Passes}
@@ -20,12 +20,14 @@ use Rattle.sched.specs.Skeleton.{isSkeleton}
 use Rattle.sched.specs.Workable.{Placement, Greatest, units, workable}
 use Rattle.sched.specs.Extension.{helps, wakeable}
 use Rattle.sched.specs.Table.{Rule, choice, fillBy, tableOf}
+use Rattle.sched.specs.Sleep.{workingOf}
 use Rattle.laws_edf.specs.Run.{spans, vol, left, allUnits, edfVolume}
 use Rattle.laws_edf.specs.Search.{reads-whole}
 use Rattle.laws_edf.specs.Lacking.{Lacking}
 use Rattle.laws_edf.specs.Touching.{touching-lacks, all-awake-serves}
 use Rattle.laws_edf.specs.Rules.{EarliestRule}
-use Rattle.laws_edf.specs.Table.{choice-earliest, fill-awake, fill-feasible}
+use Rattle.laws_edf.specs.Table.{choice-earliest, fill-awake, fill-feasible, fill-same}
+use Rattle.laws_edf.specs.WorkAlike.{work-alike}
 use Rattle.laws_edf.specs.Whole.{run-greatest, search-finds-run, served-and-lost, all-served}
 use Rattle.laws_edf.specs.Sets.{touching, skeleton-windows}
 use Rattle.laws_edf.specs.Woken.{woken-worth, lacks-if-helps, helps-if-carried, helped-before}
@@ -96,12 +98,28 @@ some-slot-wakes J S p free skeleton long short =
 pub any-rule-keeps-set : (J : Jobs) (rule : Rule) (S : List Bool) → Passes J → EarliestRule J rule → awakeOf (fillBy rule 0 (J .volumes) none S) ≡ S
 any-rule-keeps-set J rule S p ok = fill-awake J (omega (arith, p .few)) rule ok 0 (J .volumes) none S
 
+set-serves : (J : Jobs) (S : List Bool) → Passes J → length S ≡ J .horizon → workable J S ≡ totalVolume J →
+    vol (spans J) (awake S) (length S) 0 (volume J) ≡ allUnits (spans J) (volume J)
+set-serves J S p long all =
+    ap (λ (h : ℕ). vol (spans J) (awake S) h 0 (volume J)) long ∙ all-served J (p .same-volumes) S (sym (workable-is-edf J S long) ∙ all)
+
 -- Where the workable volume is the sum of volumes, its table is feasible.
 pub any-rule-feasible : (J : Jobs) (rule : Rule) (S : List Bool) → Passes J → EarliestRule J rule → length S ≡ J .horizon →
     workable J S ≡ totalVolume J → Feasible J (fillBy rule 0 (J .volumes) none S)
 any-rule-feasible J rule S p ok long all =
-    fill-feasible J (omega (arith, p .few)) rule ok S (awake S) long (reads-whole S)
-    (ap (λ (h : ℕ). vol (spans J) (awake S) h 0 (volume J)) long ∙ all-served J (p .same-volumes) S (sym (workable-is-edf J S long) ∙ all))
+    fill-feasible J (omega (arith, p .few)) rule ok S (awake S) long (reads-whole S) (set-serves J S p long all)
+
+-- Whatever they do on equal deadlines, two such rules work in the same slots, in every set.
+pub any-rules-work-alike : (J : Jobs) (rule other : Rule) (S : List Bool) → Passes J → EarliestRule J rule → EarliestRule J other →
+    workingOf (fillBy rule 0 (J .volumes) none S) ≡ workingOf (fillBy other 0 (J .volumes) none S)
+any-rules-work-alike J rule other S p ok ok′ = work-alike J (p .few) rule other ok ok′ S (J .volumes)
+
+-- Any rule that agrees with one of these while no unfinished job is past its deadline gives the same table, where all volume can be worked.
+pub any-rule-same : (J : Jobs) (rule other : Rule) (S : List Bool) → Passes J → EarliestRule J rule →
+    ((t : ℕ) (left : List ℕ) (latest : Option ℕ) → ((j : ℕ) → j < count J → 0 < getD left j 0 → t < deadline J j) → rule t left latest ≡ other t left latest) →
+    length S ≡ J .horizon → workable J S ≡ totalVolume J → fillBy rule 0 (J .volumes) none S ≡ fillBy other 0 (J .volumes) none S
+any-rule-same J rule other S p ok agree long all =
+    fill-same J (omega (arith, p .few)) rule ok other agree S (awake S) (reads-whole S) (set-serves J S p long all)
 
 pub table-keeps-set : (J : Jobs) (S : List Bool) → Passes J → awakeOf (tableOf J S) ≡ S
 unfolding tableOf

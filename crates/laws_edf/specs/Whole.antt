@@ -1,5 +1,5 @@
 -- The run of a whole list of jobs, from slot 0 to H.
-use Prim.Native.Nat.{ℕ, _+_, _≤_, _<_}
+use Prim.Native.Nat.{ℕ, _+_, _≤_}
 use mathlib.Core.Path.{_≡_, ap, sym, _∙_}
 use mathlib.Core.Bool.{Bool}
 use mathlib.Core.List.{List}
@@ -15,7 +15,6 @@ use Rattle.laws_edf.specs.Placed.{PlacedFrom}
 use Rattle.laws_edf.specs.Left.{vol-and-left}
 use Rattle.laws_edf.specs.Placements.{placed-at-most, bytes-long, bytes-units, run-placed}
 use Rattle.laws_edf.specs.Search.{reads-whole, search-is-run}
-use Rattle.laws_edf.specs.Find.{part-positive}
 
 module _ (J : Jobs) (S : List Bool) where
   placed-whole : (placed : List ℕ) → Placement J S placed → PlacedFrom J (awake S) 0 (volume J) placed
@@ -63,12 +62,7 @@ module _ (J : Jobs) (same : length (J .volumes) ≡ count J) where
   unfolding edfVolume
   served-and-lost S = vol-and-left (spans J) (awake S) (volume J) (J .horizon) ∙ volumes-sum
 
-  -- nothing is left of any job where all is served
-  pub nothing-lost : (S : List Bool) → edfVolume J S ≡ totalVolume J → (j : ℕ) → j < count J → left (spans J) (awake S) (volume J) (J .horizon) j ≡ 0
-  nothing-lost S e j l =
-      omega (arith, served-and-lost S, part-positive (count J) (left (spans J) (awake S) (volume J) (J .horizon)) j l)
-
-  -- so the run serves all units that there are
+  -- the run serves all units that there are, where it serves the sum of volumes
   pub all-served : (S : List Bool) → edfVolume J S ≡ totalVolume J → vol (spans J) (awake S) (J .horizon) 0 (volume J) ≡ allUnits (spans J) (volume J)
   unfolding edfVolume
   all-served S e = e ∙ sym volumes-sum

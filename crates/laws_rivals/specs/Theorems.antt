@@ -220,7 +220,7 @@ work-stays J =
     let table = tableOf J (extended J) in
     record { same = plan-working J; jobs = working-kept (J .wake) table; others = others-rest (J .wake) table }
 
--- the plan's table before card 5, here to be compared with: 01's step 5 left every slot as step 4 had it
+-- the plan's table without card 5, here to be compared with: 01's step 5 left every slot as step 4 had it
 abbrev pub tableBefore : Jobs → List ℕ
 tableBefore J = tableOf J (extended J)
 

@@ -11,7 +11,7 @@ use Rattle.sched.specs.Overload.{volumeIf, volumeInside, overloaded, overloadEn
 use Rattle.sched.specs.Skeleton.{isSkeleton, skeletons, leastOf, leastSkeleton}
 use Rattle.sched.specs.Workable.{mostFrom, workable}
 use Rattle.sched.specs.Extension.{helps, wakeable, nextWake, wokenIn, woken, wakeAll, extended}
-use Rattle.sched.specs.Table.{earliest, fillBy, tableOf}
+use Rattle.sched.specs.Table.{earliest, urgent, goesOn, fillBy, tableOf}
 use Rattle.sched.specs.Sleep.{sleepRule}
 use Rattle.sched.specs.Steps.{tableFrom, planTable}
 use Rattle.sched.specs.Outcomes.{figuresOf, planned, earlyAnswer, planBy, plan}
@@ -26,7 +26,7 @@ pub third-printed : printed thirdBytes ≡ thirdText
 unfolding printed mapCheck redundancyCheck entryCheck entriesCheck column
     times total anyBelow allBelow sumBelow maxBelow leastFrom lastBelow keep firstLeast checkFrom allSets awakeSlots runsFrom
     volumeIf volumeInside overloaded overloadEndingAt shownOverload isSkeleton skeletons leastOf leastSkeleton mostFrom workable
-    helps wakeable nextWake wokenIn woken wakeAll extended earliest fillBy tableOf valuesFrom sleepRule tableFrom planTable
+    helps wakeable nextWake wokenIn woken wakeAll extended earliest urgent goesOn fillBy tableOf valuesFrom sleepRule tableFrom planTable
     figuresOf planned earlyAnswer planBy plan leading runListFrom digits digitsIn numbers linesOf
 third-printed = refl
 

@@ -63,7 +63,7 @@ module _ (J : Jobs) (ranks arrivals table : List ℕ) (f : Free J ranks arrivals
 
   module _ {woke : List ℕ} {added : ℕ} (x : Extended J woke added) where
     woke-long : length woke ≡ J .horizon
-    woke-long = sym (awake-of-length woke) ∙ ap length (x .set-is) ∙ extended-length J (f .passes) (shown-none J (f .none-shown))
+    woke-long = sym (awake-of-length woke) ∙ ap length (x .set-is) ∙ extended-length J (f .passes)
 
     woke-full : workable J (awakeOf woke) ≡ totalVolume J
     woke-full = ap (workable J) (x .set-is) ∙ extended-full J (f .passes) (shown-none J (f .none-shown))

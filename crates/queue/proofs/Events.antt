@@ -7,7 +7,7 @@ use mathlib.Core.Logic.{_≢_}
 use native.Mathlib.Decide.{ℕ-discrete, decLt}
 use native.Mathlib.Numerals.{add-one}
 use native.Mathlib.Omega.{arith}
-use borrow.Author.Tests.{lt-ltb, le-ltb}
+use borrow.Author.Tests.{le-ltb}
 use lib.ListN.{length, getD}
 use lib.Dec.{leb, ltb}
 use lib.Pow.{pow-mono}
@@ -18,15 +18,11 @@ use Rattle.sched.specs.Bits.{bit}
 use Rattle.queue.specs.Mask.{mask}
 use Rattle.queue.specs.Mask.Laws.{mask-joins, mask-alike, mask-lt}
 use Rattle.queue.specs.Arrivals.{comesAt, goesAt, orBeyond, come, waits, Come, Gone}
-use Rattle.queue.specs.Arrivals.Laws.{come-fresh, come-itself, come-others}
+use Rattle.queue.specs.Arrivals.Laws.{beyond-in, come-fresh, come-itself, come-others}
 use Rattle.queue.specs.Runs.{Reached, Expirable, Arrivable}
 use Rattle.queue.specs.Runs.Reads.{reads}
 
 -- what comes at some slot, or never
-
-pub beyond-in : (n : ℕ) (f : ℕ → ℕ) (i : ℕ) → i < n → orBeyond n f i ≡ f i
-unfolding orBeyond
-beyond-in n f i l = rw (lt-ltb i n l, orBeyond)
 
 pub beyond-out : (n : ℕ) (f : ℕ → ℕ) (i : ℕ) → n ≤ i → orBeyond n f i ≡ 65536
 unfolding orBeyond
@@ -38,14 +34,6 @@ happens n f i t x s e l = go (decLt i n)
     go : Dec (i < n) → (i < n) × (f i ≤ t)
     go (yes m) = (m, omega (arith, beyond-in n f i m))
     go (no m) = absurd (omega (arith, beyond-out n f i (omega arith)))
-
--- f rises, so no later one comes sooner
-pub later-rises : (n : ℕ) (f : ℕ → ℕ) (i k : ℕ) → i ≤ k → k < n → (i < k → f i ≤ f k) → orBeyond n f i ≤ f k
-later-rises n f i k l m rises = go (decLt i k)
-  where
-    go : Dec (i < k) → orBeyond n f i ≤ f k
-    go (yes a) = omega (arith, beyond-in n f i (omega arith), rises a)
-    go (no a) = let e : i ≡ k = omega arith in omega (arith, beyond-in n f i (omega arith), ap f e)
 
 -- expiring
 

@@ -1,5 +1,5 @@
-pub mod LowestBit
+pub mod RankBits
 pub mod Events
-pub mod Waiting
+pub mod Looking
 pub mod SlotBySlot
 pub mod Filling

@@ -8,17 +8,18 @@ use borrow.Author.Tests.{eq-eqb, ne-eqb}
 use native.Mathlib.Numerals.{add-one}
 use lib.ListN.{length, getD, set, take, length-set}
 use lib.Seq.{set-getD, getD-set-other, take-suc-set, take-all, append-snoc}
-use Rattle.sched.specs.Slots.{asleep, awake, awakeOf}
+use Rattle.sched.specs.Slots.{asleep, awake, awakeOf, wakeful}
 use Rattle.sched.specs.Slots.Laws.{awake-of}
 use Rattle.laws_edf.specs.Run.{Spans, State, chosen, after, slotByte, bytes, final}
 use Rattle.laws_edf.specs.Search.{stateOf}
 use Rattle.laws_edf.specs.Orders.{Sorted}
 use Rattle.queue.specs.Mask.{mask}
-use Rattle.queue.specs.Ranks.{spansOf, servesRank, CanServe}
-use Rattle.queue.specs.Ranks.Lowest.{can-serve, byte-served, left-served, bits-served}
+use Rattle.queue.specs.Ranks.{spansOf, servesRank}
+use Rattle.queue.specs.Serving.{CanServeLowest, ServesLowest}
+use Rattle.queue.specs.Serving.Lowest.{can-serve-lowest, lowest-after}
 use Rattle.queue.specs.Arrivals.{ReadyAt}
-use Rattle.queue.specs.Runs.{Lookable, Looked, Serves, SlotReady, SlotDone, wakeful, Runnable, RunDone, RunTo}
-use Rattle.queue.proofs.Waiting.{bits-serve, ready-served, ready-later}
+use Rattle.queue.specs.Runs.{Lookable, Looked, SlotReady, SlotDone, Runnable, RunDone, RunTo}
+use Rattle.queue.specs.Runs.Waiting.{looked-bits, ready-after, ready-later}
 
 module _ (F : Spans) where
   pub run-starts : (first : ℕ) (left table : List ℕ) → RunTo F first left table left table first
@@ -70,25 +71,22 @@ module _
   sorted : Sorted (F .n) (F .d) ranks
   sorted = g .queued .orders .by-deadline
 
-  again : Lookable releases deadlines ranks arrivals left t bits next gone u
-  again = record { short = g .short; queued = g .queued; ready = k .ready }
+  are : bits ≡ mask (servesRank F ranks t (stateOf left)) (length releases)
+  are = looked-bits g k
 
-  are : bits ≡ mask (servesRank (spansOf releases deadlines) ranks t (stateOf left)) (length releases)
-  are = bits-serve again (k .before)
-
-  pub slot-can : 0 < bits → CanServe bits ranks left
-  slot-can = can-serve F ranks left sorted (g .queued .few) (g .queued .room) t bits are
+  pub slot-can : 0 < bits → CanServeLowest bits ranks left
+  slot-can = can-serve-lowest F ranks left sorted (g .queued .few) (g .queued .room) t bits are
 
   -- an awake slot serves the lowest of its ranks
-  pub slot-serves : (table : List ℕ) (byte bits′ : ℕ) (left′ : List ℕ) → (getD table t 0 ≡ asleep → ⊥) → Serves bits ranks left byte bits′ left′ → length left′ ≡ length left → SlotDone releases deadlines ranks arrivals left table t left′ (set table t byte) bits′ next gone u
+  pub slot-serves : (table : List ℕ) (byte bits′ : ℕ) (left′ : List ℕ) → (getD table t 0 ≡ asleep → ⊥) → ServesLowest bits ranks left byte bits′ left′ → length left′ ≡ length left → SlotDone releases deadlines ranks arrivals left table t left′ (set table t byte) bits′ next gone u
   slot-serves table byte bits′ left′ n s long =
       let on : wakeful (getD table t 0) ≡ true = rw (ne-eqb (getD table t 0) asleep n) in
+      let a = lowest-after F ranks left sorted (g .queued .few) (g .queued .room) t bits are byte bits′ left′ s in
       record {
-        table-is = rw on (ap (set table t) (s .byte-is ∙ byte-served F ranks left sorted (g .queued .few) (g .queued .room) t bits are));
-        left-is = rw on (ap stateOf (s .left-is) ∙ left-served F ranks left sorted (g .queued .few) (g .queued .room) t bits are);
+        table-is = rw on (ap (set table t) (a .byte-is));
+        left-is = rw on (a .left-is);
         left-long = long;
-        ready = ready-later releases deadlines ranks arrivals left′ t bits′ next gone u
-            (ready-served again (k .before) left′ bits′ (s .bits-are ∙ rw (s .left-is) (bits-served F ranks left sorted (g .queued .few) (g .queued .room) t bits are)));
+        ready = ready-after g k (chosen F true t (stateOf left)) byte bits′ left′ a;
       }
 
 -- the whole run

@@ -1,17 +1,16 @@
 -- What the functions of a run of earliest deadline first promise one another.
 use Prim.Native.Nat.{ℕ, suc, _-_, _≤_, _<_}
 use mathlib.Core.Path.{_≡_}
-use mathlib.Core.Bool.{Bool, not}
 use mathlib.Core.List.{List, _++_}
 use lib.ListN.{length, getD, set, take}
-use lib.Dec.{eqb}
-use Rattle.sched.specs.Slots.{asleep, awake, awakeOf}
+use Rattle.sched.specs.Slots.{awake, awakeOf, wakeful}
 use Rattle.laws_edf.specs.Run.{Spans, chosen, after, slotByte, bytes, final}
 use Rattle.laws_edf.specs.Search.{stateOf}
 use Rattle.laws_edf.specs.Orders.{Orders, jobAt}
-use Rattle.queue.specs.Ranks.{spansOf, servedByte, servedLeft, servedBits}
+use Rattle.queue.specs.Ranks.{spansOf}
 use Rattle.queue.specs.Arrivals.{comesAt, goesAt, orBeyond, Come, Gone, ReadyAt}
 pub mod Reads
+pub mod Waiting
 pub mod Whole
 
 -- the release of the rank at place i of arrivals can be read
@@ -72,20 +71,10 @@ pub record Looked (releases deadlines ranks arrivals left : List ℕ) (t bits ne
   pub ready : ReadyAt releases deadlines ranks arrivals left t bits next gone u
   pub before : t < u
 
--- the lowest rank is served
-pub record Serves (bits : ℕ) (ranks left : List ℕ) (byte bits′ : ℕ) (left′ : List ℕ) : Type 0 where
-  pub byte-is : byte ≡ servedByte bits ranks
-  pub bits-are : bits′ ≡ servedBits bits ranks left
-  pub left-is : left′ ≡ servedLeft bits ranks left
-
 -- a slot can be served
 pub record SlotReady (releases deadlines ranks arrivals left table : List ℕ) (t bits next gone u : ℕ) : Type 0 where
   pub inside : t < length table
   pub lookable : Lookable releases deadlines ranks arrivals left t bits next gone u
-
--- the byte says awake
-abbrev pub wakeful : ℕ → Bool
-wakeful byte = not (eqb byte asleep)
 
 -- slot t has been served, if it is awake
 pub record SlotDone (releases deadlines ranks arrivals left table : List ℕ) (t : ℕ) (left′ table′ : List ℕ) (bits next gone u : ℕ) : Type 0 where

@@ -6,9 +6,10 @@ ghost use Prim.Native.Nat.{_*_, _/_, _^_, _≤_, _<_};
 ghost use lib.ListN.{length};
 ghost use lib.Dec.{leb, ltb};
 ghost use Rattle.sched.specs.Bits.{bit};
-ghost use Rattle.queue.specs.Ranks.{spansOf, CanServe};
+ghost use Rattle.queue.specs.Ranks.{spansOf};
+ghost use Rattle.queue.specs.Serving.{CanServe, Serves, CanServeLowest, ServesLowest};
 ghost use Rattle.queue.specs.Arrivals.{comesAt, goesAt, orBeyond};
-ghost use Rattle.queue.specs.Runs.{Reached, Known, Expirable, Expired, Arrivable, Arrived, Lesser, Lookable, Looked, Serves, SlotReady, SlotDone, Runnable, RunDone, Units};
+ghost use Rattle.queue.specs.Runs.{Reached, Known, Expirable, Expired, Arrivable, Arrived, Lesser, Lookable, Looked, SlotReady, SlotDone, Runnable, RunDone, Units};
 use sched::ASLEEP;
 use sched::IDLE;
 
@@ -16,11 +17,11 @@ use sched::IDLE;
 const BEYOND: usize = 65536;
 
 // The ranks that wait, a bit each, when the first `next` of `arrivals` have come and the first `gone` ranks have expired; it is so up to slot `until`.
-struct Ready {
-    mask: u64,
-    next: usize,
-    gone: usize,
-    until: usize,
+pub struct Ready {
+    pub mask: u64,
+    pub next: usize,
+    pub gone: usize,
+    pub until: usize,
 }
 
 // The ranks that wait when the first `next` of `arrivals` have come.
@@ -30,9 +31,9 @@ struct Coming {
 }
 
 // The byte of a slot, and the ranks that wait after it.
-struct Choice {
-    byte: u8,
-    mask: u64,
+pub struct Served {
+    pub byte: u8,
+    pub mask: u64,
 }
 
 fn wide(x: u16) -> usize
@@ -164,32 +165,39 @@ fn look(
     }
 }
 
-// Serves the lowest of the ranks.
-fn serve(mask: u64, left: &mut [u16], ranks: &[u8]) -> Choice
-    requires { ⌜ (0 < mask → CanServe mask (now ranks) (now left)) ⌝ }
-    ensures { λ r. ⌜ Serves mask (now (ranks .entry)) (now (left .entry)) (r .byte) (r .mask) (now (left .exit)) ⌝ }
+// Serves one of the ranks that wait.
+pub fn serve(rank: usize, mask: u64, left: &mut [u16], ranks: &[u8]) -> Served
+    requires { ⌜ CanServe rank mask (now ranks) (now left) ⌝ }
+    ensures { λ r. ⌜ Serves rank mask (now (ranks .entry)) (now (left .entry)) (r .byte) (r .mask) (now (left .exit)) ⌝ }
+{
+    let byte = ranks[rank];
+    let job = byte as usize;
+    left[job] -= 1;
+    if left[job] == 0 {
+        return Served {
+            byte,
+            mask: mask - (1u64 << (rank as u32)),
+        };
+    }
+    Served { byte, mask }
+}
+
+// Serves the lowest of the ranks, if any waits.
+fn serve_lowest(mask: u64, left: &mut [u16], ranks: &[u8]) -> Served
+    requires { ⌜ (0 < mask → CanServeLowest mask (now ranks) (now left)) ⌝ }
+    ensures { λ r. ⌜ ServesLowest mask (now (ranks .entry)) (now (left .entry)) (r .byte) (r .mask) (now (left .exit)) ⌝ }
 {
     if mask == 0 {
-        return Choice {
+        return Served {
             byte: IDLE,
             mask: 0,
         };
     }
-    let rank = u64::trailing_zeros(mask);
-    let byte = ranks[rank as usize];
-    let job = byte as usize;
-    left[job] -= 1;
-    if left[job] == 0 {
-        return Choice {
-            byte,
-            mask: mask - (1u64 << rank),
-        };
-    }
-    Choice { byte, mask }
+    serve(u64::trailing_zeros(mask) as usize, mask, left, ranks)
 }
 
 // What slot t may serve: as it was last, or looked at anew.
-fn current(
+pub fn current(
     t: usize,
     last: Ready,
     releases: &[u16],
@@ -225,10 +233,10 @@ fn slot(
         return last;
     }
     let fresh = current(t, last, releases, deadlines, ranks, arrivals, left);
-    let choice = serve(fresh.mask, left, ranks);
-    table[t] = choice.byte;
+    let served = serve_lowest(fresh.mask, left, ranks);
+    table[t] = served.byte;
     Ready {
-        mask: choice.mask,
+        mask: served.mask,
         next: fresh.next,
         gone: fresh.gone,
         until: fresh.until,

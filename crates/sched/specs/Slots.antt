@@ -22,9 +22,13 @@ abbrev pub markByte : Bool → ℕ
 markByte true = idle
 markByte false = asleep
 
+-- the byte is that of an awake slot
+abbrev pub wakeful : ℕ → Bool
+wakeful byte = not (eqb byte asleep)
+
 -- the awake slots of a table
 abbrev pub awakeOf : List ℕ → List Bool
-awakeOf = map (λ byte. not (eqb byte asleep))
+awakeOf = map wakeful
 
 -- how many slots of a table hold the byte j
 unfoldable pub times : ℕ → List ℕ → ℕ

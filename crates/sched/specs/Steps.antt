@@ -1,4 +1,4 @@
--- 01, "From list to table", with card 5 of 02: the steps put together, for a list that passes the checks and has no overloaded interval.
+-- 01, "From list to table", with cards 5 and 6 of 02: the steps put together, for a list that passes the checks and has no overloaded interval.
 use mathlib.Core.Bool.{Bool}
 use mathlib.Core.List.{List}
 use Prim.Native.Nat.{ℕ}

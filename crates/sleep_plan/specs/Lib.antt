@@ -3,4 +3,5 @@
 pub mod Block
 pub mod Entry
 pub mod Promises
+pub mod TieRule
 pub mod Puts

@@ -1,3 +1,4 @@
+pub mod GoingRank
 pub mod AsRun
 pub mod Behind
-pub mod Running
+pub mod SlotBySlot

@@ -5,11 +5,7 @@ use mathlib.Core.List.{List, [], _∷_}
 -- with each byte 257 times the number so far plus the byte plus 1, modulo 1,000,003
 unfoldable pub digestFrom : ℕ → List ℕ → ℕ
 digestFrom sum [] = sum
-digestFrom sum (byte ∷ bytes) = digestFrom ((sum * 257 + byte + 1) % 1000003) bytes
-
--- from 0 on, so 0 for no byte
-abbrev pub digestOf : List ℕ → ℕ
-digestOf bytes = digestFrom 0 bytes
+digestFrom sum (byte ∷ bytes) = digestFrom ((sum % 1000003 * 257 + byte % 1000003 + 1) % 1000003) bytes
 
 -- the k slots from slot t on, idle (254) where the slot is even, else asleep (255)
 unfoldable pub turnsFrom : ℕ → ℕ → List ℕ

@@ -3,7 +3,7 @@
 ghost use mathlib.Core.Path.{_≡_};
 ghost use Prim.Native.Nat.{_+_, _*_, _%_, _^_};
 ghost use lib.ListN.{length, getD, take, set, replicate};
-ghost use Rattle.test_bytes.specs.Bytes.{digestOf, turnsFrom};
+ghost use Rattle.test_bytes.specs.Bytes.{digestFrom, turnsFrom};
 use libc::STDOUT_FILENO;
 
 // Prints the bytes as they are.
@@ -22,25 +22,31 @@ pub fn end_line() {
     text(b"\n");
 }
 
-// A number that depends on every byte and its place: from 0 on, for each byte in turn, 257 times the number so far plus the byte plus 1,
-// modulo 1,000,003. So 0 for no byte.
-pub fn digest(out: &[u8]) -> u64
-    ensures { λ r. ⌜ r ≡ digestOf (now (out .entry)) ⌝ }
-{
-    let mut sum: u64 = 0;
-    let mut i = 0;
-    while i < out.len() {
-        sum = (sum * 257 + out[i] as u64 + 1) % 1000003;
-        i += 1;
-    }
-    sum
-}
-
-// The digest with one number more: as `digest` takes a byte, 257 times the digest plus the number plus 1, modulo 1,000,003.
+// The digest with one number more: 257 times the digest plus the number plus 1, modulo 1,000,003.
 pub fn mixed(sum: u64, x: u64) -> u64
     ensures { λ r. ⌜ r ≡ (sum % 1000003 * 257 + x % 1000003 + 1) % 1000003 ⌝ }
 {
     (sum % 1000003 * 257 + x % 1000003 + 1) % 1000003
+}
+
+// The digest with each byte in turn.
+pub fn digest_from(sum: u64, out: &[u8]) -> u64
+    ensures { λ r. ⌜ r ≡ digestFrom sum (now (out .entry)) ⌝ }
+{
+    let mut all = sum;
+    let mut i = 0;
+    while i < out.len() {
+        all = mixed(all, out[i] as u64);
+        i += 1;
+    }
+    all
+}
+
+// A number that depends on every byte and its place: the digest of all bytes from 0 on, so 0 for no byte.
+pub fn digest(out: &[u8]) -> u64
+    ensures { λ r. ⌜ r ≡ digestFrom 0 (now (out .entry)) ⌝ }
+{
+    digest_from(0, out)
 }
 
 // The next state of a linear congruence; its low bits are better left alone.

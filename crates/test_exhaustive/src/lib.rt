@@ -1,4 +1,4 @@
-// Document 01's steps, the fifth as card 5 of 02 has it, on lists of at most four jobs and eight slots, by trying every set of slots and
+// Document 01's steps, the fourth as card 6 of 02 has it and the fifth as card 5 does, on lists of at most four jobs and eight slots, by trying every set of slots and
 // every placement. Test code: it is held against the planner, and shares no function with it.
 // What a function yields is said above it and tested by `test_plans`; it is proved only where its contract has an equation.
 ghost use Rattle.test_exhaustive.specs.Bounds.{Bounded};
@@ -17,7 +17,7 @@ pub use small::Small;
 pub use small::digit;
 pub use small::volume;
 
-// A list's outcome by document 01 and card 5: overloaded with the interval shown, a and b, or planned with energy, awake slots, runs, added and the
+// A list's outcome by document 01 with cards 5 and 6: overloaded with the interval shown, a and b, or planned with energy, awake slots, runs, added and the
 // table. What does not apply is 0.
 pub struct Solved {
     pub overloaded: bool,
@@ -31,7 +31,7 @@ pub struct Solved {
     pub table: u64,
 }
 
-// The outcome of steps 1 to 5 of 01, with card 5. `added` is what step 3 woke, the other figures are those of the set that step 5 leaves awake.
+// The outcome of steps 1 to 5 of 01, with cards 5 and 6. `added` is what step 3 woke, the other figures are those of the set that step 5 leaves awake.
 // The contract only bounds the figures; that they are right is what the comparison tests.
 pub fn solve(l: Small) -> Solved
     ensures { λ r. ⌜ Bounded r ⌝ }

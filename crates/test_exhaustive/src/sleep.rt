@@ -1,20 +1,12 @@
 // Step 5, as card 5 of document 02 has it, by trying every set of slots that holds the working ones. A stretch between two working slots
 // costs its length if it is awake, q if it sleeps, and more than q if only a part of it is awake; an awake slot outside always costs. So of all
 // these sets the card's is the cheapest, and where a stretch has just q slots, the one of the cheapest with the fewest slots.
-ghost use mathlib.Core.Path.{_≡_};
-ghost use Prim.Native.Nat.{_*_, _/_, _%_, _^_};
 use crate::sets::cost_of;
 use crate::small::Small;
 use crate::small::bit;
 use crate::small::with;
+use crate::steps::byte;
 use crate::steps::put;
-
-// The byte of slot t, which is below 8.
-fn byte(table: u64, t: u32) -> u32
-    ensures { λ r. ⌜ r ≡ table / 2 ^ (t % 8 * 8) % 256 ⌝ }
-{
-    ((table >> (t % 8 * 8)) % 256) as u32
-}
 
 // The set and slot t, if a job runs in that slot; else the set.
 fn with_working(set: u32, table: u64, t: u32) -> u32 {

@@ -1,4 +1,4 @@
-// Steps 3 and 4.
+// Steps 3 and 4, the latter as card 6 of document 02 has it.
 use crate::placement::after;
 use crate::placement::workable;
 use crate::small::Small;
@@ -6,7 +6,8 @@ use crate::small::bit;
 use crate::small::digit;
 use crate::small::volume;
 use crate::small::with;
-ghost use Prim.Native.Nat.{_<_, _≤_};
+ghost use mathlib.Core.Path.{_≡_};
+ghost use Prim.Native.Nat.{_*_, _/_, _%_, _^_, _<_, _≤_};
 
 // The set after step 3, and how many slots were woken.
 pub struct Extended {
@@ -49,17 +50,21 @@ pub fn extend(l: Small, skeleton: u32) -> Extended
     Extended { set, added }
 }
 
+// Whether job j is released in slot t and unfinished: r ≤ t, and its digit of `left` is not 0.
+fn waits(l: Small, left: u32, t: u32, j: u32) -> bool {
+    digit(left, j) != 0 && digit(l.r, j) <= t
+}
+
 // Whether job j has the earlier deadline, or the same one and the lower number.
 fn earlier(l: Small, j: u32, k: u32) -> bool {
     digit(l.d, j) < digit(l.d, k) || digit(l.d, j) == digit(l.d, k) && j < k
 }
 
-// The job that an awake slot t runs: among those released (r ≤ t) and unfinished (their digit of `left` is not 0) the one with the
-// earliest deadline, on equal deadlines the lowest number, or 4 where there is none.
+// Of the jobs that wait in slot t the one with the earliest deadline, on equal deadlines the lowest number, or 4 where there is none.
 fn first_due(l: Small, left: u32, t: u32) -> u32 {
     let mut best = 4;
     for j in 0..4 {
-        if digit(left, j) != 0 && digit(l.r, j) <= t {
+        if waits(l, left, t, j) {
             if best == 4 || earlier(l, j, best) {
                 best = j;
             }
@@ -68,9 +73,43 @@ fn first_due(l: Small, left: u32, t: u32) -> u32 {
     best
 }
 
+// The job that an awake slot t runs: of those that wait and have the earliest deadline the one that ran in the latest earlier working slot, `last`, if it
+// is one of them, else the lowest number; 4 where none waits.
+fn job_of(l: Small, left: u32, t: u32, last: u32) -> u32 {
+    let first = first_due(l, left, t);
+    if last < 4 && waits(l, left, t, last) && digit(l.d, last) == digit(l.d, first) {
+        return last;
+    }
+    first
+}
+
 // The table with byte b in slot t, whose byte is 0 so far; t is below 8.
 pub fn put(table: u64, t: u32, b: u32) -> u64 {
     table | ((b as u64) << (t % 8 * 8))
+}
+
+// The byte of slot t, which is below 8.
+pub fn byte(table: u64, t: u32) -> u32
+    ensures { λ r. ⌜ r ≡ table / 2 ^ (t % 8 * 8) % 256 ⌝ }
+{
+    ((table >> (t % 8 * 8)) % 256) as u32
+}
+
+// The job of slot t, if one runs in it; else `last`.
+fn latest_of(table: u64, t: u32, last: u32) -> u32 {
+    let here = byte(table, t);
+    if here < 4 { here } else { last }
+}
+
+// The job of the latest working slot before t, by looking through the table, or 4 where there is none.
+fn latest_before(table: u64, t: u32) -> u32 {
+    let mut last = 4;
+    for s in 0..8 {
+        if s < t {
+            last = latest_of(table, s, last);
+        }
+    }
+    last
 }
 
 // Step 4: the table of a set, slot t in byte t: the number of the job that the slot runs, 254 where it is idle, 255 where it is not in
@@ -80,7 +119,7 @@ pub fn fill(l: Small, set: u32) -> u64 {
     let mut table: u64 = 0;
     for t in 0..8 {
         if bit(set, t) == 1 {
-            let j = first_due(l, left, t);
+            let j = job_of(l, left, t, latest_before(table, t));
             if j < 4 {
                 left = after(left, j);
                 table = put(table, t, j);

@@ -1,6 +1,6 @@
 // What many tables are after the rule.
 use test_bytes::byte;
-use test_bytes::mixed;
+use test_bytes::digest_from;
 use test_bytes::number;
 
 // How many slots are idle and asleep, the energies added up, and a digest of all bytes. The sums are modulo 2^64, which none here comes near.
@@ -37,17 +37,6 @@ pub fn holding(table: &[u8], from: usize, end: usize, held: u8) -> u64 {
     n
 }
 
-// The digest with all bytes of a table.
-fn digest(sum: u64, table: &[u8]) -> u64 {
-    let mut all = sum;
-    let mut t = 0;
-    while t < table.len() {
-        all = mixed(all, byte(table, t) as u64);
-        t += 1;
-    }
-    all
-}
-
 // The energy of a table of at most 4,096 slots; 0 of a longer one, and there is none here.
 fn energy(q: u16, table: &[u8]) -> u64 {
     if table.len() <= 4096 {
@@ -64,7 +53,7 @@ pub fn settle(last: Tally, q: u16, table: &mut [u8]) -> Tally {
         idle: std::num::wrapping_add_u64(last.idle, holding(table, 0, end, 254)),
         asleep: std::num::wrapping_add_u64(last.asleep, holding(table, 0, end, 255)),
         energy: std::num::wrapping_add_u64(last.energy, energy(q, table)),
-        sum: digest(last.sum, table),
+        sum: digest_from(last.sum, table),
     }
 }
 

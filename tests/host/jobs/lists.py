@@ -1,7 +1,16 @@
-"""Random job lists, written as text in many ways, and the bytes that document 01 has for them."""
+"""Random and worked job lists, written as text in many ways, and the bytes that document 01 has for them."""
 
 NAME_FIRST = "abcxyzABCXYZ"
 NAME_REST = NAME_FIRST + "0123456789-_.<>&'\"!~:,;"
+
+
+# Lists of card 6 of 02 with their tables, worked by hand: of jobs due together the one that ran last goes on, in the second over a sleeping slot.
+WORKED = [
+    ((4, 1, [(1, 4, 2, ""), (0, 4, 2, "")]), [1, 1, 0, 0]),
+    ((12, 0, [(5, 12, 1, ""), (0, 12, 4, ""), (0, 1, 1, ""), (3, 6, 1, ""), (8, 10, 1, "")]), [2, 1, 1, 3, 1, 255, 1, 255, 255, 4, 0, 255]),
+    ((16, 2, [(0, 15, 2, ""), (4, 15, 3, ""), (10, 15, 1, ""), (10, 14, 2, ""), (8, 15, 1, ""), (7, 14, 2, ""), (1, 15, 3, "")]),
+     [255, 0, 0, 6, 6, 6, 1, 5, 5, 1, 3, 3, 1, 2, 4, 255]),
+]
 
 
 def random_list(rng, slots, most):
@@ -13,6 +22,8 @@ def random_list(rng, slots, most):
         share = max(1, span // (1 + most // 3))
         name = "".join([rng.choice(NAME_FIRST)] + rng.choices(NAME_REST, k=rng.randrange(16))) if rng.random() < 0.5 else ""
         deadline = slots if rng.random() < 0.1 else release + span
+        if jobs and jobs[0][1] > release and rng.random() < 0.2:  # due together with the first
+            deadline = jobs[0][1]
         jobs.append((0 if rng.random() < 0.1 else release, deadline, rng.randint(1, share), "" if name == "volume" else name))
     if jobs and rng.random() < 0.1:
         release, deadline, _, name = jobs[-1]

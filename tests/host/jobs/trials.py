@@ -1,10 +1,10 @@
-"""Random lists through the tool: bytes, round trips and pictures, then damaged texts and bytes under the sanitizers."""
+"""Worked and random lists through the tool: bytes, round trips and pictures, then damaged texts and bytes under the sanitizers."""
 
 import random
 import subprocess
 import sys
 
-from lists import random_list, to_bytes, to_text
+from lists import WORKED, random_list, to_bytes, to_text
 from pictures import Answer, check_svg, check_timeline, need
 
 SEED = 20261115
@@ -31,7 +31,7 @@ def ask(data, slots):
 
 
 def try_list(rng, jobs, slots, wake, entries):
-    """A list through all commands of the tool. Gives what sleep_plan returned."""
+    """A list through all commands of the tool. Gives what sleep_plan said: the number returned, four numbers, the table."""
     text, data = to_text(rng, slots, wake, entries).encode(), to_bytes(slots, wake, entries)
     need(fine(jobs, "bytes", stdin=text) == data, "the bytes of a text")
     back = fine(jobs, "text", stdin=data)
@@ -43,7 +43,7 @@ def try_list(rng, jobs, slots, wake, entries):
     nameless = Answer(slots, wake, [entry[:3] + ("",) for entry in entries], said)
     check_timeline(nameless, fine(jobs, "show", "--bytes", stdin=data, code=code).decode())
     check_svg(nameless, fine(jobs, "svg", "--bytes", stdin=data, code=code).decode())
-    return said[0]
+    return said
 
 
 def damaged(rng, data, kinds=5):
@@ -89,8 +89,10 @@ def try_damaged_bytes(data):
 
 def main():
     rng = random.Random(SEED)
-    answers = [try_list(rng, JOBS, *random_list(rng, rng.randint(1, 150), 8)) for _ in range(SMALL)]
-    answers += [try_list(rng, SANITIZED, *random_list(rng, rng.choice([1025, 3000, 4096]), 64)) for _ in range(LARGE)]
+    for worked, table in WORKED:
+        need(try_list(rng, SANITIZED, *worked)[5:] == table, f"another table for the worked list {worked}")
+    answers = [try_list(rng, JOBS, *random_list(rng, rng.randint(1, 150), 8))[0] for _ in range(SMALL)]
+    answers += [try_list(rng, SANITIZED, *random_list(rng, rng.choice([1025, 3000, 4096]), 64))[0] for _ in range(LARGE)]
     exits = [0, 0, 0]
     for _ in range(TEXTS):
         text = damaged(rng, to_text(rng, *random_list(rng, rng.randint(1, 150), 8)).encode())
@@ -98,7 +100,7 @@ def main():
     refused = [try_damaged_bytes(damaged(rng, to_bytes(*random_list(rng, rng.randint(1, 150), 8)), 6)) for _ in range(BYTES)]
     need({11, 12, 13, 14, 15, 16, 25, 26} <= set(refused), f"refusals seen: {sorted(set(refused))}")
     need(answers.count(0) > SMALL // 2 and answers.count(18) > 5 and min(exits) > 5, f"trials of one kind: {answers}, {exits}")
-    print(f"{len(answers)} random lists ({answers.count(18)} overloaded, {LARGE} large), {TEXTS} damaged texts ({exits[2]} refused), "
+    print(f"{len(WORKED)} worked lists, {len(answers)} random lists ({answers.count(18)} overloaded, {LARGE} large), {TEXTS} damaged texts ({exits[2]} refused), "
           f"{BYTES} damaged lists ({sum(r not in (0, 18) for r in refused)} refused)")
 
 

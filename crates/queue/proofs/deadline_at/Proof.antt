@@ -1,7 +1,8 @@
 -- `deadline_at` meets its contract, by its test.
 use mathlib.Core.Path.{sym, _∙_}
 use native.Mathlib.Omega.{arith}
-use Rattle.queue.proofs.Events.{beyond-in, beyond-out}
+use Rattle.queue.specs.Arrivals.Laws.{beyond-in}
+use Rattle.queue.proofs.Events.{beyond-out}
 use borrow.Author.Needs.{needs}
 use Rattle.queue.proofs.deadline_at.Statement.{statement}
 use Rattle.queue.proofs.deadline_at.Tie as tie

@@ -1,6 +1,6 @@
 -- `drop_below` meets its contract: shifted down and up again.
 use native.Mathlib.Omega.{arith}
-use Rattle.queue.proofs.LowestBit.{dropped, dropped-all}
+use Rattle.queue.proofs.RankBits.{dropped, dropped-all}
 use borrow.Author.Needs.{needs}
 use Rattle.queue.proofs.drop_below.Statement.{statement}
 use Rattle.queue.proofs.drop_below.Tie as tie

@@ -1,5 +1,5 @@
 -- `joining` meets its contract, by its tests.
-use Rattle.queue.proofs.LowestBit.{joins-gone, joins-empty, joins}
+use Rattle.queue.proofs.RankBits.{joins-gone, joins-empty, joins}
 use borrow.Author.Needs.{needs}
 use Rattle.queue.proofs.joining.Statement.{statement}
 use Rattle.queue.proofs.joining.Tie as tie

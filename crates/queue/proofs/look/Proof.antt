@@ -1,6 +1,6 @@
 -- `look` meets its contract: what expires leaves the mask, then what is released joins it.
 use borrow.Author.Needs.{needs}
-use Rattle.queue.proofs.Waiting.{look-expirable, look-few, look-arrivable, look-reached, look-known, look-done}
+use Rattle.queue.proofs.Looking.{look-expirable, look-few, look-arrivable, look-reached, look-known, look-done}
 use Rattle.queue.proofs.look.Statement.{statement}
 use Rattle.queue.proofs.look.Tie as tie
 

@@ -3,7 +3,8 @@ use mathlib.Core.Path.{sym, _∙_}
 use native.Mathlib.Omega.{arith}
 use lib.ListN.{getD}
 use denote.Ref.{now}
-use Rattle.queue.proofs.Events.{beyond-in, beyond-out}
+use Rattle.queue.specs.Arrivals.Laws.{beyond-in}
+use Rattle.queue.proofs.Events.{beyond-out}
 use borrow.Author.Needs.{needs}
 use Rattle.queue.proofs.release_at.Statement.{statement}
 use Rattle.queue.proofs.release_at.Tie as tie

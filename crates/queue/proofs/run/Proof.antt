@@ -6,7 +6,7 @@ use lib.ListN.{length}
 use Rattle.queue.specs.Ranks.{spansOf}
 use Rattle.queue.specs.Arrivals.{ReadyAt}
 use Rattle.queue.specs.Runs.{RunTo}
-use Rattle.queue.proofs.Waiting.{ready-first}
+use Rattle.queue.specs.Runs.Waiting.{ready-first}
 use Rattle.queue.proofs.SlotBySlot.{run-starts, slot-ready, run-turn, run-ready, run-ends}
 use Rattle.queue.proofs.run.Statement.{statement}
 use Rattle.queue.proofs.run.Tie as tie

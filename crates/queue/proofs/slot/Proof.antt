@@ -17,8 +17,8 @@ returns c = slot-sleeps _ _ _ _ _ _ _ _ _ _ _ (c .if1 .taken) (start (c .before)
 current-requires : tie.Need-current-requires
 current-requires c κs = start (c .before .before) .pre .lookable
 
-serve-requires : tie.Need-serve-requires
-serve-requires c κs pos =
+serve-lowest-requires : tie.Need-serve-lowest-requires
+serve-lowest-requires c κs pos =
     let looked = c .before in
     slot-can (start (looked .before .before .before) .pre .lookable) (looked .current .ensures) pos
 
@@ -36,8 +36,8 @@ returns-2 c =
     let done = c .before .before in
     let looked = done .before .before in
     let test = looked .before .before in
-    slot-serves (start (test .before) .pre .lookable) (looked .current .ensures) _ _ _ _ (test .if1 .left) (done .serve .ensures)
-    (done .serve .kept .1 .0)
+    slot-serves (start (test .before) .pre .lookable) (looked .current .ensures) _ _ _ _ (test .if1 .left) (done .serve-lowest .ensures)
+    (done .serve-lowest .kept .1 .0)
 
 pub slot-spec : {M : Type 1} → statement M
 slot-spec =
@@ -46,7 +46,7 @@ slot-spec =
     slice-read-if1
     returns
     current-requires
-    serve-requires
+    serve-lowest-requires
     slice-write-table
     same-length
     same-length-2

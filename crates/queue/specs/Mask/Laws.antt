@@ -4,12 +4,12 @@ use mathlib.Core.Path.{_≡_, refl, sym, ap, _∙_}
 use mathlib.Core.Bool.{Bool, true, false, _&&_}
 use mathlib.Core.Logic.{_≢_}
 use mathlib.Core.Option.{Option, none, some}
-use native.Mathlib.Nat.{one-mul, mod-eq-of-lt, pow-zero, pow-suc, mul-assoc, mul-comm, mul-one, zero-mul, div-one, zero-div}
+use native.Mathlib.Nat.{one-mul, mod-eq-of-lt, pow-zero, pow-suc, mul-assoc, mul-comm, mul-one, zero-mul, div-one, zero-div, zero-add, div-eq-of-lt}
 use native.Mathlib.Decide.{ℕ-discrete}
 use native.Mathlib.Omega.{arith}
 use borrow.Author.Tests.{le-leb, lt-leb}
 use lib.Dec.{leb}
-use lib.Pow.{shr-shr, pow-lt}
+use lib.Pow.{shr-shr, pow-lt, pow-mono}
 use lib.Count.{trailingZeros, under}
 use Rattle.sched.specs.Bounded.{leastFrom}
 use Rattle.sched.specs.Bits.{bit}
@@ -80,11 +80,32 @@ mask-none f n h = go n 0
     go zero t = refl
     go (suc k) t = rw (h t) (omega (arith, go k (suc t)))
 
+-- b + 2 m, shifted once more than m, is m shifted
+shifted-once : (b m g : ℕ) → b ≤ 1 → (b + 2 * m) / 2 ^ suc g ≡ m / 2 ^ g
+shifted-once b m g l =
+    ap (λ (x : ℕ). (b + 2 * m) / 2 ^ x) (omega arith) ∙ sym (shr-shr (b + 2 * m) 1 g) ∙ ap (λ (x : ℕ). x / 2 ^ g) (half b m l)
+
+-- a number's bit, by shifting; past the last number it is 0
+pub mask-bit : (f : ℕ → Bool) (n k : ℕ) → k < n → mask f n / 2 ^ k % 2 ≡ bit (f k)
+unfolding maskFrom
+mask-bit f n k l = go n 0 k l ∙ ap (λ (x : ℕ). bit (f x)) (zero-add k)
+  where
+    go : (m t i : ℕ) → i < m → maskFrom f m t / 2 ^ i % 2 ≡ bit (f (t + i))
+    go zero t i l = absurd (omega arith)
+    go (suc m) t zero l =
+        let here : t + 0 ≡ t = omega arith in
+        rw (here, pow-zero, div-one) (parity (bit (f t)) (maskFrom f m (suc t)) (bit-small (f t)))
+    go (suc m) t (suc i) l =
+        let next : t + suc i ≡ suc t + i = omega arith in
+        rw (next, shifted-once (bit (f t)) (maskFrom f m (suc t)) i (bit-small (f t))) (go m (suc t) i (omega arith))
+
+pub mask-past : (f : ℕ → Bool) (n k : ℕ) → n ≤ k → mask f n / 2 ^ k % 2 ≡ 0
+mask-past f n k l = ap (λ (x : ℕ). x % 2) (div-eq-of-lt {n = mask f n} {m = 2 ^ k} (omega (arith, mask-lt f n 0, pow-mono {i = n} {j = k} l)))
+
 -- of b + 2 m, the bits from suc g on are those of m from g on
 halved : (b m g : ℕ) → b ≤ 1 → (b + 2 * m) / 2 ^ suc g * 2 ^ suc g ≡ 2 * (m / 2 ^ g * 2 ^ g)
 halved b m g l =
-    let e : (b + 2 * m) / 2 ^ suc g ≡ m / 2 ^ g = ap (λ (x : ℕ). (b + 2 * m) / 2 ^ x) (omega arith) ∙ sym (shr-shr (b + 2 * m) 1 g) ∙ ap (λ (x : ℕ). x / 2 ^ g) (half b m l) in
-    ap (λ (x : ℕ). x * 2 ^ suc g) e ∙ ap (λ (x : ℕ). m / 2 ^ g * x) (pow-suc 2 g) ∙ sym (mul-assoc (m / 2 ^ g) (2 ^ g) 2) ∙ mul-comm (m / 2 ^ g * 2 ^ g) 2
+    ap (λ (x : ℕ). x * 2 ^ suc g) (shifted-once b m g l) ∙ ap (λ (x : ℕ). m / 2 ^ g * x) (pow-suc 2 g) ∙ sym (mul-assoc (m / 2 ^ g) (2 ^ g) 2) ∙ mul-comm (m / 2 ^ g * 2 ^ g) 2
 
 -- without the numbers below g
 pub mask-drops : (f : ℕ → Bool) (n g : ℕ) → mask (λ k. leb g k && f k) n ≡ mask f n / 2 ^ g * 2 ^ g

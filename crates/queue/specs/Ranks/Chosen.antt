@@ -22,25 +22,26 @@ module _ (F : Spans) (ranks : List ℕ) (sorted : Sorted (F .n) (F .d) ranks) (t
       go (yes e) = rw e (record { sooner = omega arith; lower = λ _. omega arith })
       go (no n) = let s = sorted .rising k i (omega arith) m in record { sooner = s .sooner; lower = λ d. omega (arith, s .lower d) }
 
-  -- the least rank that may be served is the job that is picked
+  -- a rank that may be served, and none below it may, is the job that is picked
+  pub rank-first : (k : ℕ) → k < F .n → servesRank F ranks t L k ≡ true → ((i : ℕ) → i < k → servesRank F ranks t L i ≡ false) → Chosen F t L (jobAt ranks k)
+  rank-first k below holds none-lower =
+      record {
+        able = eligible F t L (jobAt ranks k) (sorted .known k below) holds;
+        first = λ j g. before j g (sorted .all j (g .below));
+      }
+    where
+      before : (j : ℕ) → Eligible F t L j → (i : ℕ) × (i < F .n) × (jobAt ranks i ≡ j) → First (F .d) (jobAt ranks k) j
+      before j g (i, m, q) = go (decLt i k)
+        where
+          go : Dec (i < k) → First (F .d) (jobAt ranks k) j
+          go (yes l) = true-not-false (servable F t L j) (servable-if F t L j g) (ap (servable F t L) (sym q) ∙ none-lower i l)
+          go (no n) = subst (First (F .d) (jobAt ranks k)) q (lower-first k i (omega arith) m)
+
   pub rank-chosen : (k : ℕ) → leastFrom (F .n) 0 (servesRank F ranks t L) ≡ some k → (k < F .n) × Chosen F t L (jobAt ranks k)
   rank-chosen k e =
       let f = least-some (F .n) 0 (servesRank F ranks t L) k e in
-      let below : k < F .n = omega (arith, f .below) in (
-        below,
-        record {
-          able = eligible F t L (jobAt ranks k) (sorted .known k below) (f .holds);
-          first = λ j g. before j g (sorted .all j (g .below)) (f .first);
-        },
-      )
-    where
-      before : (j : ℕ) → Eligible F t L j → (i : ℕ) × (i < F .n) × (jobAt ranks i ≡ j) → ((i : ℕ) → 0 ≤ i → i < k → servesRank F ranks t L i ≡ false) → First (F .d) (jobAt ranks k) j
-      before j g (i, m, q) none-lower = go (decLt i k)
-        where
-          go : Dec (i < k) → First (F .d) (jobAt ranks k) j
-          go (yes l) =
-              true-not-false (servable F t L j) (servable-if F t L j g) (ap (servable F t L) (sym q) ∙ none-lower i (omega arith) l)
-          go (no n) = subst (First (F .d) (jobAt ranks k)) q (lower-first k i (omega arith) m)
+      let below : k < F .n = omega (arith, f .below) in
+      (below, rank-first k below (f .holds) (λ i l. f .first i (omega arith) l))
 
   pub rank-none : leastFrom (F .n) 0 (servesRank F ranks t L) ≡ none → chosen F true t L ≡ none
   rank-none e = chosen-none F t L (λ j g. go j g (sorted .all j (g .below)))

@@ -9,13 +9,12 @@ use native.Mathlib.Decide.{ℕ-discrete}
 use native.Mathlib.Nat.{zero-add}
 use native.Mathlib.Omega.{arith}
 use borrow.Author.Tests.{ltb-true, ltb-false, le-ltb, ne-eqb}
-use lib.ListN.{length, getD, replicate}
-use lib.Seq.{drop-length}
-use lib.Dec.{eqb}
+use lib.ListN.{length, getD, replicate, length-map}
+use lib.Seq.{drop-length, ext-getD}
 use Rattle.sched.specs.Bounded.Laws.{by-bool, values-length, values-at}
 use Rattle.sched.specs.Jobs.{Jobs, count}
-use Rattle.sched.specs.Slots.{markByte, idle, asleep, times}
-use Rattle.sched.specs.Slots.Laws.{times-same, times-other}
+use Rattle.sched.specs.Slots.{markByte, idle, asleep, wakeful, awakeOf, times}
+use Rattle.sched.specs.Slots.Laws.{awake-of, awake-of-length, times-same, times-other}
 use Rattle.sched.specs.Feasible.{Feasible}
 use Rattle.sched.specs.Sleep.{works, workingOf, working, workBefore, workAfter, staysAwake, idleAt, sleptByte, sleepRule}
 use Rattle.sched.specs.Sleep.FromFront.{nextWork, sleptFrom, slept-none, slept-work, slept-rest, slept-stretch, rule-from-front}
@@ -29,7 +28,7 @@ mark-known true = inl refl
 mark-known false = inr refl
 
 -- a working slot is awake
-pub works-awake : (byte : ℕ) → works byte ≡ true → not (eqb byte asleep) ≡ true
+pub works-awake : (byte : ℕ) → works byte ≡ true → wakeful byte ≡ true
 works-awake byte w = let low = ltb-true byte 64 w in ap not (ne-eqb byte asleep (λ e. absurd (omega arith)))
 
 pub slept-length : (q : ℕ) (table : List ℕ) → length (sleepRule q table) ≡ length table
@@ -38,7 +37,7 @@ slept-length q table = values-length (length table) 0 (sleptByte q table)
 
 -- slot by slot
 
-working-of : (table : List ℕ) (t : ℕ) → t < length table → working (workingOf table) t ≡ works (getD table t 0)
+pub working-of : (table : List ℕ) (t : ℕ) → t < length table → working (workingOf table) t ≡ works (getD table t 0)
 working-of [] t l = absurd (omega arith)
 working-of (x ∷ table) zero l = refl
 working-of (x ∷ table) (suc t) l = working-of table t (omega arith)
@@ -129,3 +128,29 @@ module _ (J : Jobs) (q : ℕ) (table : List ℕ) (few : count J ≤ 64) (f : Fea
     own = λ t l m. let same = named t l m in rw same (f .own t l (rw same at m));
     exact = λ j l. ap (times j) (rule-from-front q table) ∙ times-from j q none 0 table (omega arith) ∙ f .exact j l;
   }
+
+-- the rule goes by the working slots alone: tables in which the same slots work are awake in the same slots after it
+
+module _ (q : ℕ) (one two : List ℕ) (same : workingOf one ≡ workingOf two) where
+  same-length : length one ≡ length two
+  same-length = sym (length-map one works) ∙ ap length same ∙ length-map two works
+
+  slot-alike : (t : ℕ) → t < length one → wakeful (getD (sleepRule q one) t 0) ≡ wakeful (getD (sleepRule q two) t 0)
+  slot-alike t l =
+      let m : t < length two = omega (arith, same-length) in
+      let alike : works (getD one t 0) ≡ works (getD two t 0) = sym (working-of one t l) ∙ ap (λ (W : List Bool). working W t) same ∙ working-of two t m in
+      by-bool (works (getD one t 0))
+      (λ w.
+      let v = sym alike ∙ w in
+      ap wakeful (working-kept q one t l w) ∙ works-awake (getD one t 0) w ∙ sym (ap wakeful (working-kept q two t m v) ∙ works-awake (getD two t 0) v))
+      (λ w.
+      ap wakeful (others-marked q one t l w ∙ ap (λ (W : List Bool). markByte (idleAt q W t)) same ∙ sym (others-marked q two t m (sym alike ∙ w))))
+
+  pub slept-alike : awakeOf (sleepRule q one) ≡ awakeOf (sleepRule q two)
+  slept-alike =
+      ext-getD false (awakeOf (sleepRule q one)) (awakeOf (sleepRule q two))
+      (awake-of-length (sleepRule q one) ∙ slept-length q one ∙ same-length ∙ sym (awake-of-length (sleepRule q two) ∙ slept-length q two))
+      (λ t l.
+      let a : t < length one = omega (arith, awake-of-length (sleepRule q one), slept-length q one) in
+      awake-of (sleepRule q one) t (omega (arith, slept-length q one)) ∙ slot-alike t a
+      ∙ sym (awake-of (sleepRule q two) t (omega (arith, slept-length q two, same-length))))

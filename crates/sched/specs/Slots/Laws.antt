@@ -2,7 +2,7 @@
 use Prim.Native.Nat.{ℕ, zero, suc, _+_, _≤_, _<_}
 use mathlib.Core.Path.{_≡_, refl, ap}
 use mathlib.Core.Bool.{Bool, not}
-use mathlib.Core.List.{List, [], _∷_, _++_}
+use mathlib.Core.List.{List, [], _∷_, map, _++_}
 use mathlib.Core.Logic.{_≢_}
 use native.Mathlib.Decide.{ℕ-discrete}
 use native.Mathlib.Omega.{arith}
@@ -24,9 +24,10 @@ awake-of (x ∷ table) (suc t) l = awake-of table t (omega arith)
 
 -- a table cut in two
 
-pub awake-of-append : (l m : List ℕ) → awakeOf (l ++ m) ≡ awakeOf l ++ awakeOf m
-awake-of-append [] m = refl
-awake-of-append (x ∷ l) m = ap (λ (S : List Bool). not (eqb x asleep) ∷ S) (awake-of-append l m)
+-- what is asked of each byte, as `awakeOf` asks
+pub map-append : (f : ℕ → Bool) (l m : List ℕ) → map f (l ++ m) ≡ map f l ++ map f m
+map-append f [] m = refl
+map-append f (x ∷ l) m = ap (λ (rest : List Bool). f x ∷ rest) (map-append f l m)
 
 pub state-append : (b : Bool) (S R : List Bool) → stateAfter b (S ++ R) ≡ stateAfter (stateAfter b S) R
 state-append b [] R = refl

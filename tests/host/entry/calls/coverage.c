@@ -49,6 +49,11 @@ static int put_to_sleep(const struct notes *n) { return planned(n) && n->put_to_
 static int kept_awake(const struct notes *n) { return planned(n) && n->kept_awake > 0; }
 static int skeleton_tie(const struct notes *n) { return planned(n) && n->skeleton_tie; }
 static int deadline_tie(const struct notes *n) { return planned(n) && n->deadline_tie; }
+static int went_on(const struct notes *n) { return planned(n) && n->went_on; }
+static int latest_done(const struct notes *n) { return planned(n) && n->latest_done; }
+static int latest_later(const struct notes *n) { return planned(n) && n->latest_later; }
+static int on_over_idle(const struct notes *n) { return planned(n) && n->on_over_idle; }
+static int on_over_sleep(const struct notes *n) { return planned(n) && n->on_over_sleep; }
 static int several_starts(const struct notes *n) { return n->spot.kind == OVERLOAD && n->several_starts; }
 
 static struct feature features[] = {
@@ -58,12 +63,14 @@ static struct feature features[] = {
   { "q 0", q_none, 250, 0 }, { "q 65535", q_most, 180, 0 },
   { "2 runs or more", some_runs, 330, 0 }, { "11 runs or more", many_runs, 65, 0 },
   { "slots added", added, 1100, 0 }, { "none added", none_added, 70, 0 },
-  { "a slot passed over", passed_over, 530, 0 }, { "a path over 3 jobs", path, 100, 0 }, { "a path over 8 jobs", long_path, 6, 0 },
-  { "equal skeletons", skeleton_tie, 900, 0 }, { "equal deadlines", deadline_tie, 460, 0 },
+  { "a slot passed over", passed_over, 530, 0 }, { "a path over 3 jobs", path, 100, 0 }, { "a path over 8 jobs", long_path, 5, 0 },
+  { "equal skeletons", skeleton_tie, 900, 0 }, { "equal deadlines", deadline_tie, 530, 0 },
+  { "on past a lower number", went_on, 140, 0 }, { "a tie, the latest done", latest_done, 390, 0 }, { "a tie, the latest due later", latest_later, 36, 0 },
+  { "on over idle slots", on_over_idle, 26, 0 }, { "on over sleeping slots", on_over_sleep, 35, 0 },
   { "no slot works", whole, 250, 0 }, { "asleep before the work", leading, 860, 0 }, { "asleep behind the work", trailing, 790, 0 },
   { "a stretch shorter than q", shorter, 250, 0 }, { "a stretch of q slots", just_q, 45, 0 }, { "a stretch longer than q", longer, 210, 0 },
   { "q 0, a stretch", longer_than_none, 100, 0 }, { "idle slots put to sleep", put_to_sleep, 280, 0 },
-  { "sleeping slots kept awake", kept_awake, 25, 0 },
+  { "sleeping slots kept awake", kept_awake, 50, 0 },
   { "overloaded, several starts", several_starts, 380, 0 },
 };
 enum { FEATURES = sizeof features / sizeof *features };

@@ -1,5 +1,5 @@
-/* Calls with known answers: the plans worked by hand, stretches about as long as a wake costs, each refusal at the first and the last place
- * that it can have, short buffers; and buffers that share bytes. Each list is also held to the oracle (checked_call.h).
+/* Calls with known answers: the plans worked by hand, stretches about as long as a wake costs, jobs that go on over such stretches, each refusal at
+ * the first and the last place that it can have, short buffers; and buffers that share bytes. Each list is also held to the oracle (checked_call.h).
  *
  *   known_answers [heap]    with "heap" the buffers are heap blocks of just their size
  */
@@ -97,6 +97,38 @@ static void stretches(void) {
       plans("a stretch", n + 2, q, JOB_LIST(JOB(0, 1, 1), JOB(n + 1, n + 2, 1)), table,
             n < q ? ANSWER(0, n + 2 + q, n + 2, 1, 2) : ANSWER(0, 2 + 2 * q, 2, 2, 2));
     }
+}
+
+/* 02, card 6, worked slot by slot */
+static void ties(void) {
+  plans("card 6", 4, 0, JOB_LIST(JOB(1, 4, 2), JOB(0, 4, 2)), TABLE(1, 1, 0, 0), ANSWER(0, 4, 4, 1, 3));
+  plans("card 6, q 3", 4, 3, JOB_LIST(JOB(1, 4, 2), JOB(0, 4, 2)), TABLE(1, 1, 0, 0), ANSWER(0, 7, 4, 1, 3));
+  plans("on over slot 5, asleep", 12, 0, JOB_LIST(JOB(5, 12, 1), JOB(0, 12, 4), JOB(0, 1, 1), JOB(3, 6, 1), JOB(8, 10, 1)),
+        TABLE(2, 1, 1, 3, 1, 255, 1, 255, 255, 4, 0, 255), ANSWER(0, 8, 8, 3, 5));
+  plans("on over slot 7, idle", 14, 2, JOB_LIST(JOB(7, 14, 1), JOB(0, 14, 6), JOB(0, 1, 1), JOB(5, 8, 1), JOB(12, 13, 1)),
+        TABLE(2, 1, 1, 1, 1, 3, 1, 254, 1, 255, 255, 255, 4, 0), ANSWER(0, 15, 11, 2, 7));
+  plans("broken off", 5, 1, JOB_LIST(JOB(2, 5, 1), JOB(0, 5, 3), JOB(2, 3, 1)), TABLE(1, 1, 2, 0, 1), ANSWER(0, 6, 5, 1, 4));
+  plans("seven jobs", 16, 2, JOB_LIST(JOB(0, 15, 2), JOB(4, 15, 3), JOB(10, 15, 1), JOB(10, 14, 2), JOB(8, 15, 1), JOB(7, 14, 2), JOB(1, 15, 3)),
+        TABLE(255, 0, 0, 6, 6, 6, 1, 5, 5, 1, 3, 3, 1, 2, 4, 255), ANSWER(0, 16, 14, 1, 13));
+}
+
+/* A job goes on in slot e over n slots that step 4 leaves asleep, though a lower number of its deadline waits. The skeleton is slots 2, e and z. Slot 1
+ * and those from 3 to m + 1 are woken, then z - 1. */
+static void on_over(unsigned n, unsigned q) {
+  static uint8_t table[MOST_SLOTS];
+  unsigned m = 4 + q, e = m + 2 + n, z = e + 3 + q, awake = m + 4 + (n < q ? n : 0), runs = n < q ? 2 : 3;
+  memset(table, 255, sizeof table);
+  memset(table + 1, 1, e);
+  memset(table + m + 2, n < q ? 254 : 255, n);
+  table[1] = 2; table[m] = 3; table[z - 1] = 4; table[z] = 0;
+  plans("on over a stretch", z + 2, q, JOB_LIST(JOB(e, z + 1, 1), JOB(1, z + 1, m), JOB(1, 2, 1), JOB(m, e, 1), JOB(z - 1, z, 1)), table,
+        ANSWER(0, awake + q * runs, awake, runs, q + 5));
+}
+
+static void on_over_stretches(void) {
+  static const unsigned lengths[] = { 1, 2, 3, 254, 255, 256, 257, 1300 };
+  for (size_t i = 0; i < sizeof lengths / sizeof *lengths; i++)
+    for (unsigned n = lengths[i], q = n - 1; q <= n + 1; q++) on_over(n, q);
 }
 
 /* A list of 453 bytes, in which each field of each job stands. */
@@ -211,6 +243,8 @@ int main(int argc, char **argv) {
   draw_for(0, 0);
   worked_cases();
   stretches();
+  ties();
+  on_over_stretches();
   refused_bytes();
   short_buffers();
   overloads();

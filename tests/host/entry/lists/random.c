@@ -42,6 +42,13 @@ static void equal_spans(struct list *l) {
   for (unsigned j = 0; j < l->n; j++) l->job[j] = of[draw(kinds)];
 }
 
+/* One to three deadlines, each had by many, whose releases differ: a lower number often comes when a higher one is under way. */
+static void equal_deadlines(struct list *l) {
+  unsigned of[3], kinds = between(1, 3);
+  for (unsigned k = 0; k < kinds; k++) of[k] = between(1, l->h);
+  for (unsigned j = 0; j < l->n; j++) { unsigned d = of[draw(kinds)]; span(&l->job[j], draw(d), d); }
+}
+
 /* Each inside the one before, some with the same start or end. */
 static void nested_spans(struct list *l) {
   unsigned r = 0, d = l->h;
@@ -90,7 +97,7 @@ static void short_spans(struct list *l) {
 }
 
 static void (*const spans[])(struct list *) = {
-  free_spans, free_spans, equal_spans, nested_spans, edge_spans, chained_spans, staggered_spans, short_spans
+  free_spans, free_spans, equal_spans, equal_deadlines, nested_spans, edge_spans, chained_spans, staggered_spans, short_spans
 };
 
 static void shuffle(struct list *l) {
@@ -114,7 +121,24 @@ static void volumes(struct list *l, unsigned load) {
   for (unsigned j = 0; j < l->n; j++) if (!l->job[j].p) l->job[j].p = 1;
 }
 
+/* A job goes on over slots that sleep in step 4, in place of a lower number of its deadline that was released meanwhile; hardly any other list does
+ * that. Three jobs of one unit, too far apart for one run, make the skeleton: the slots x + 1, e and z. Slot x and those from x + 2 up are woken, until
+ * `gap` of them are left before e; then z - 1 is. The long job runs wherever none of the three does, in e for the last time, and the lower number
+ * in z. The gap is idle in the table if it is shorter than q. */
+static void parted_list(struct list *l) {
+  unsigned q = one_in(8) ? draw(900) : draw(6), x = one_in(4) ? draw(900) : draw(4), gap = between(1, one_in(4) ? 2 * q + 1 : 4);
+  unsigned m = x + 3 + q + draw(3), e = m + 2 + gap + draw(3), f = e + 2 + q + draw(3), z = f + 1 + draw(3), d = z + between(1, 3);
+  const struct job low = { between(m + 2, e), d, 1, 0 }, high = { x, d, e - 1 - gap - x, 0 };
+  const struct job all[] = { { x, x + 1, 1, 0 }, { m, e, 1, 0 }, { f, z, 1, 0 }, low, high };
+  l->h = d + draw(3); l->q = q; l->n = sizeof all / sizeof *all;
+  for (unsigned j = 0; j < l->n; j++) l->job[j] = all[j];
+  shuffle(l);
+  for (unsigned j = 0, met = 0; j < l->n; j++) if (l->job[j].d == d) l->job[j] = met++ ? high : low;
+  settle(l);
+}
+
 void good_list(struct list *l) {
+  if (one_in(24)) { parted_list(l); return; }
   size(l);
   l->q = wake_cost(l->h);
   spans[draw(sizeof spans / sizeof *spans)](l);

@@ -207,23 +207,43 @@ static int extend(const struct slots *skeleton) {
   return contradiction ? NONE : added;
 }
 
-/* Step 4. */
+static int works(const uint8_t *table, int t) { return table[t] < JOBS; }
+
+static int latest_working(const uint8_t *table, int t) {
+  while (t > 0) if (works(table, --t)) return t;
+  return NONE;
+}
+
+/* A tie: slot t runs a job of earliest deadline where several wait, and s is the latest earlier working slot. Where the job of s goes on in place of a
+ * lower number, the stretch between s and t matters too: it is idle or asleep in the end as step 5 has it. */
+static void note_tie(const uint8_t *table, const int *left, uint64_t earliest, int s, int t) {
+  noted->deadline_tie = 1;
+  if (s == NONE) return;
+  if (!inside(earliest, table[s])) { if (left[table[s]] == 0) noted->latest_done = 1; else noted->latest_later = 1; return; }
+  if (table[s] == __builtin_ctzll(earliest)) return;
+  noted->went_on = 1;
+  if (t - s > 1) { if (t - s - 1 < Q) noted->on_over_idle = 1; else noted->on_over_sleep = 1; }
+}
+
+/* Step 4 as card 6 of 02 has it: "Among released, unfinished jobs with the earliest deadline, the one that ran in the latest earlier working slot
+ * goes on. If it is not among them, the lowest number runs." */
 static void fill(uint8_t *table) {
   int left[JOBS];
   for (int j = 0; j < N; j++) left[j] = jobs[j].p;
   for (int t = 0; t < H; t++) {
     if (!has(&awake, t)) { table[t] = 255; continue; }
-    int best = NONE, tie = 0;
-    for (int j = 0; j < N; j++) {
-      if (jobs[j].r > t || left[j] == 0) continue;
-      if (best == NONE || jobs[j].d < jobs[best].d) { best = j; tie = 0; } else tie |= jobs[j].d == jobs[best].d;
-    }
-    noted->deadline_tie |= tie;
-    if (best == NONE) table[t] = 254; else { table[t] = (uint8_t)best; left[best]--; }
+    uint64_t waiting = 0, earliest = 0;
+    int due = H;
+    for (int j = 0; j < N; j++) if (jobs[j].r <= t && left[j] > 0) { waiting |= (uint64_t)1 << j; if (jobs[j].d < due) due = jobs[j].d; }
+    for (int j = 0; j < N; j++) if (inside(waiting, j) && jobs[j].d == due) earliest |= (uint64_t)1 << j;
+    if (!earliest) { table[t] = 254; continue; }
+    int lowest = __builtin_ctzll(earliest), s = latest_working(table, t);
+    int goes_on = s != NONE && inside(earliest, table[s]);
+    if (earliest & (earliest - 1)) note_tie(table, left, earliest, s, t);
+    table[t] = goes_on ? table[s] : (uint8_t)lowest;
+    left[table[t]]--;
   }
 }
-
-static int works(const uint8_t *table, int t) { return table[t] < JOBS; }
 
 /* What kind of stretch lies between the working slots a and b. */
 static enum stretch stretch(int a, int b) {

@@ -16,8 +16,11 @@ loop-holds c = search needs
 bit-requires : tie.Need-bit-requires Inv-loop μ-loop
 bit-requires c κs = search needs
 
-first-due-requires : tie.Need-first-due-requires Inv-loop μ-loop
-first-due-requires c κs = search needs
+latest-before-requires : tie.Need-latest-before-requires Inv-loop μ-loop
+latest-before-requires c κs = search needs
+
+job-of-requires : tie.Need-job-of-requires Inv-loop μ-loop
+job-of-requires c κs = search needs
 
 after-requires : tie.Need-after-requires Inv-loop μ-loop
 after-requires c κs = search needs
@@ -51,7 +54,8 @@ fill-spec =
     μ-loop
     loop-holds
     bit-requires
-    first-due-requires
+    latest-before-requires
+    job-of-requires
     after-requires
     put-requires
     put-requires-2

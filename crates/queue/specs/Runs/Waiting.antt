@@ -1,11 +1,12 @@
 -- The ranks that wait are those that a slot may serve, and stay so from slot to slot.
-use Prim.Native.Nat.{ℕ, suc, _*_, _/_, _^_, _≤_, _<_}
+use Prim.Native.Nat.{ℕ, suc, _≤_, _<_}
 use mathlib.Core.Path.{_≡_, refl, sym, ap, subst, _∙_}
 use mathlib.Core.Bool.{Bool, true, false, _&&_}
 use mathlib.Core.List.{List}
+use mathlib.Core.Option.{Option}
 use native.Mathlib.Decide.{decLt}
 use native.Mathlib.Omega.{arith}
-use borrow.Author.Tests.{le-leb, lt-leb, lt-ltb, le-ltb, eqb-true, eqb-false, leb-true}
+use borrow.Author.Tests.{le-leb, lt-leb, lt-ltb, le-ltb, eqb-true, eqb-false}
 use lib.ListN.{length, getD}
 use lib.Dec.{leb, ltb, eqb}
 use Rattle.sched.specs.Bounded.{anyBelow}
@@ -14,32 +15,12 @@ use Rattle.laws_edf.specs.Run.{State}
 use Rattle.laws_edf.specs.Search.{stateOf}
 use Rattle.laws_edf.specs.Orders.{Sorted, jobAt}
 use Rattle.queue.specs.Mask.{mask}
-use Rattle.queue.specs.Mask.Laws.{mask-alike, mask-drops, mask-none}
+use Rattle.queue.specs.Mask.Laws.{mask-alike, mask-none}
 use Rattle.queue.specs.Ranks.{spansOf, servesRank}
-use Rattle.queue.specs.Arrivals.{comesAt, goesAt, orBeyond, come, waits, Come, ReadyAt}
-use Rattle.queue.specs.Runs.{Reached, Known, Expirable, Expired, Arrivable, Arrived, Lesser, Lookable, Looked}
-use Rattle.queue.specs.Runs.Reads.{reads}
-use Rattle.queue.proofs.Events.{later-rises}
-
--- expired ranks leave the bits
-
-narrowed : (c a b u : Bool) → (a ≡ true → b ≡ true) → a && (c && b && u) ≡ c && a && u
-narrowed c true b u h = rw (h refl)
-narrowed true false b u h = refl
-narrowed false false b u h = refl
-
-drop-come : (releases ranks arrivals left : List ℕ) (t bits next gone all y : ℕ) → gone ≤ all → y ≡ bits / 2 ^ all * 2 ^ all → Come releases ranks arrivals left t bits next gone → Come releases ranks arrivals left t y next all
-drop-come releases ranks arrivals left t bits next gone all y l e c =
-    let L = stateOf left in
-    record {
-      most = c .most;
-      bits-are = e ∙ ap (λ (x : ℕ). x / 2 ^ all * 2 ^ all) (c .bits-are) ∙ sym (mask-drops (waits ranks arrivals next gone L) (length releases) all)
-          ∙ mask-alike (λ k. leb all k && waits ranks arrivals next gone L k) (waits ranks arrivals next all L) (length releases)
-          (λ k m. narrowed (come arrivals next k) (leb all k) (leb gone k) (ltb 0 (L (jobAt ranks k))) (λ q. le-leb gone k (omega (arith, leb-true all k q))));
-      by-now = c .by-now;
-    }
-
--- looking at a slot
+use Rattle.queue.specs.Serving.{After}
+use Rattle.queue.specs.Arrivals.{comesAt, goesAt, come, waits, ReadyAt}
+use Rattle.queue.specs.Arrivals.Laws.{later-rises}
+use Rattle.queue.specs.Runs.{Lookable, Looked}
 
 module _ {releases deadlines ranks arrivals left : List ℕ} {t bits next gone u : ℕ} (g : Lookable releases deadlines ranks arrivals left t bits next gone u) where
   ranks-sorted : Sorted (length releases) (λ j. getD deadlines j 0) ranks
@@ -47,43 +28,6 @@ module _ {releases deadlines ranks arrivals left : List ℕ} {t bits next gone u
 
   same : length deadlines ≡ length releases
   same = g .queued .orders .same
-
-  pub look-known : (k : ℕ) → k < length deadlines → Known deadlines ranks k
-  look-known k l =
-      record { listed = omega (arith, same, ranks-sorted .long); job = omega (arith, same, ranks-sorted .known k (omega (arith, same))) }
-
-  pub look-reached : (i : ℕ) → i < length releases → Reached releases ranks arrivals i
-  look-reached = reads (g .queued .orders)
-
-  pub look-expirable : Expirable deadlines ranks t gone
-  look-expirable = record { short = g .short; known = look-known; went = g .ready .went }
-
-  module _ {all : ℕ} (x : Expired deadlines ranks t gone all) where
-    pub look-few : all ≤ 64
-    look-few = omega (arith, x .went .most, same, g .queued .few)
-
-    pub look-arrivable : (y : ℕ) → y ≡ bits / 2 ^ all * 2 ^ all → Arrivable releases ranks arrivals left t y next all
-    look-arrivable y e =
-        record {
-          short = g .short;
-          deadlines = deadlines;
-          queued = g .queued;
-          came = drop-come releases ranks arrivals left t bits next gone all y (x .more) e (g .ready .came);
-        }
-
-    pub look-done : (bits′ next′ a b v : ℕ) → Arrived releases ranks arrivals left t bits′ next′ all
-        → a ≡ orBeyond (length releases) (comesAt releases ranks arrivals) next′ → b ≡ orBeyond (length deadlines) (goesAt deadlines ranks) all
-        → Lesser a b v → Looked releases deadlines ranks arrivals left t bits′ next′ all v
-    look-done bits′ next′ a b v r p q s =
-        record {
-          ready = record {
-            came = r .came;
-            went = x .went;
-            next-release = omega (arith, p, s .first);
-            next-deadline = omega (arith, q, s .second);
-          };
-          before = s .either t (omega (arith, p, r .later)) (omega (arith, q, x .later));
-        }
 
   -- before slot u, the ranks that wait are those that slot t may serve
   module _ (before : t < u) where
@@ -113,13 +57,13 @@ module _ {releases deadlines ranks arrivals left : List ℕ} {t bits next gone u
         ap (λ (b : Bool). b && ltb t (getD deadlines (jobAt ranks k) 0) && ltb 0 (L (jobAt ranks k))) (released k l (come arrivals next k) refl)
         ∙ ap (λ (b : Bool). come arrivals next k && b && ltb 0 (L (jobAt ranks k))) (expires k l (decLt k gone))
 
-    pub bits-serve : bits ≡ mask (servesRank (spansOf releases deadlines) ranks t (stateOf left)) (length releases)
+    bits-serve : bits ≡ mask (servesRank (spansOf releases deadlines) ranks t (stateOf left)) (length releases)
     bits-serve =
         g .ready .came .bits-are
         ∙ mask-alike (waits ranks arrivals next gone (stateOf left)) (servesRank (spansOf releases deadlines) ranks t (stateOf left)) (length releases) (λ k l. sym (alike (stateOf left) k l))
 
     -- it stays so for what is left when a rank is served
-    pub ready-served : (left′ : List ℕ) (bits′ : ℕ) → bits′ ≡ mask (servesRank (spansOf releases deadlines) ranks t (stateOf left′)) (length releases)
+    ready-served : (left′ : List ℕ) (bits′ : ℕ) → bits′ ≡ mask (servesRank (spansOf releases deadlines) ranks t (stateOf left′)) (length releases)
         → ReadyAt releases deadlines ranks arrivals left′ t bits′ next gone u
     ready-served left′ bits′ e =
         record {
@@ -159,3 +103,19 @@ module _ (releases deadlines ranks arrivals : List ℕ) where
         next-release = omega arith;
         next-deadline = omega arith;
       }
+
+-- a slot that has been looked at
+
+module _
+    {releases deadlines ranks arrivals left : List ℕ} {t bits next gone u bits₀ next₀ gone₀ u₀ : ℕ}
+    (g : Lookable releases deadlines ranks arrivals left t bits₀ next₀ gone₀ u₀)
+    (k : Looked releases deadlines ranks arrivals left t bits next gone u) where
+  again : Lookable releases deadlines ranks arrivals left t bits next gone u
+  again = record { short = g .short; queued = g .queued; ready = k .ready }
+
+  pub looked-bits : bits ≡ mask (servesRank (spansOf releases deadlines) ranks t (stateOf left)) (length releases)
+  looked-bits = bits-serve again (k .before)
+
+  pub ready-after : (job : Option ℕ) (byte bits′ : ℕ) (left′ : List ℕ) → After (spansOf releases deadlines) ranks t left job byte bits′ left′ → ReadyAt releases deadlines ranks arrivals left′ (suc t) bits′ next gone u
+  ready-after job byte bits′ left′ a =
+      ready-later releases deadlines ranks arrivals left′ t bits′ next gone u (ready-served again (k .before) left′ bits′ (a .bits-are))
