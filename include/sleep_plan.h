@@ -9,8 +9,8 @@
  * In slots without a job the processor sleeps, except between two slots with jobs that have fewer than q slots between them: there it stays
  * awake and idle. So no plan with jobs in the same slots costs less.
  *
- * A slot with a job runs, of the released and unfinished jobs with the earliest deadline, the one that ran in the latest earlier slot with a
- * job, even if the processor idled or slept in between. If it is not among them, the lowest number runs.
+ * Of the jobs that are released, unfinished and due first, a slot with a job runs the one that the nearest earlier slot with a job ran, even if
+ * the processor idled or slept in between; if that is none of them, the lowest number.
  *
  * One call does it all. It uses the three buffers it is given and a little stack: no heap, no file, no clock, no global variable. It may
  * be called from several threads at once, each with its own buffers. It always returns.

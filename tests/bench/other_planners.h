@@ -1,4 +1,4 @@
-/* Three implementations of document 01's steps, with card 5 of 02, to measure the proved one against. Their reader, constants and lists are their own: they share
+/* Three implementations of document 01's steps, with cards 5 and 6 of 02, to measure the proved one against. Their reader, constants and lists are their own: they share
  * nothing with the proved one, and reading is part of what is measured. */
 #ifndef OTHER_PLANNERS_H
 #define OTHER_PLANNERS_H

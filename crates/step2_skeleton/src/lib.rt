@@ -78,12 +78,13 @@ fn better(best: Ending, low: u16, end: u16, through: u32) -> Ending
     if best.through < through {
         return best;
     }
-    if through == best.through {
-        if best.end <= end {
-            return best;
-        }
+    if through < best.through {
+        return Ending { end, through };
     }
-    Ending { end, through }
+    if end < best.end {
+        return Ending { end, through };
+    }
+    best
 }
 
 // The best end of a run that may end before `low`, where `through` is paid, or behind the start of a window from place `from` on.

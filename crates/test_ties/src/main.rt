@@ -1,5 +1,5 @@
-// The planner where jobs are due together, as card 6 of 02 has it: worked lists, every short list with at most two deadlines, rows of one list, and
-// lists by chance with few deadlines. `stdout` was worked out apart from this program.
+// The planner where jobs are due together, as card 6 of 02 has it: worked lists, every short list with two given deadlines, rows of a list
+// again and again, and lists by chance with few deadlines. `stdout` was worked out apart from this program.
 
 mod tally; // tally.rt: what the planner answers to many lists
 mod worked; // worked.rt: single lists
