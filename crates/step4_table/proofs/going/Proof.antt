@@ -1,4 +1,4 @@
--- `going` meets its contract.
+-- `going` meets its contract: each way out is a case of `goingRank`.
 use native.Mathlib.Omega.{arith}
 use lib.Count.{trailing-le}
 use borrow.Author.Needs.{needs}

@@ -1,0 +1,20 @@
+-- `test_bytes::mixed` meets its contract, which is its formula; remainders keep the sums small.
+use mathlib.Core.Path.{refl}
+use borrow.Author.Needs.{needs}
+use Rattle.test_bytes.proofs.mixed.Statement.{statement}
+use Rattle.test_bytes.proofs.mixed.Tie as tie
+
+mul-result : tie.Need-mul-result
+mul-result c = search needs
+
+add-result : tie.Need-add-result
+add-result c = search needs
+
+add-result-2 : tie.Need-add-result-2
+add-result-2 c = search needs
+
+returns : tie.Need-returns
+returns c = refl
+
+pub mixed-spec : {M : Type 1} → statement M
+mixed-spec = tie.close (tie.spec mul-result add-result add-result-2 returns)
