@@ -1,7 +1,7 @@
 -- 01, "Refused, and where", and 02: the returned number and the place of each refusal.
 use Prim.Native.Nat.{ℕ}
 use Rattle.sched.specs.declared.Refusal.{Refusal}
-use Rattle.sched.specs.declared.Refusal.the-variants.{Truncated, OutOfRange, UnknownBit, Redundant, EmptySpan, LeftOver, TooShort, Unequal, BadByte, TooOften, OutOfSpan, TooRare, PastHorizon, NoVolume, PaddingBit, BadSlotByte, NoSuchRun}
+use Rattle.sched.specs.declared.Refusal.the-variants.{Truncated, OutOfRange, UnknownBit, Redundant, EmptySpan, LeftOver, TooShort, Unequal, BadByte, TooOften, OutOfSpan, TooRare, PastHorizon, NoVolume, PaddingBit, BadSlotByte, NoSuchRun, NoJobs}
 pub mod Laws
 
 abbrev pub number : Refusal → ℕ
@@ -22,6 +22,7 @@ number (NoVolume at) = 26
 number (PaddingBit at) = 31
 number (BadSlotByte at) = 32
 number (NoSuchRun at) = 33
+number (NoJobs at) = 34
 
 abbrev pub place : Refusal → ℕ
 place (Truncated at) = at
@@ -41,3 +42,4 @@ place (NoVolume at) = at
 place (PaddingBit at) = at
 place (BadSlotByte at) = at
 place (NoSuchRun at) = at
+place (NoJobs at) = at

@@ -51,6 +51,8 @@ pub enum Refusal {
     BadSlotByte(usize),
     // 33: the number of runs, none of which has the number asked for.
     NoSuchRun(usize),
+    // 34: always 0, the list has no jobs.
+    NoJobs(usize),
 }
 
 // The answer of a check: it passes, or the first fault.
@@ -109,6 +111,7 @@ impl Refusal {
             Refusal::PaddingBit(_) => 31,
             Refusal::BadSlotByte(_) => 32,
             Refusal::NoSuchRun(_) => 33,
+            Refusal::NoJobs(_) => 34,
         }
     }
 
@@ -133,6 +136,7 @@ impl Refusal {
             Refusal::PaddingBit(at) => at,
             Refusal::BadSlotByte(at) => at,
             Refusal::NoSuchRun(at) => at,
+            Refusal::NoJobs(at) => at,
         }
     }
 }

@@ -52,37 +52,37 @@ module _ (J : Jobs) where
       go j s (yes l) = volume-early a b j l
       go j s (no l) = volume-late a b j (omega arith)
 
-  -- one slot less at the end, where no job has its deadline there
-  cut-end : Passes J → (a b : ℕ) → ((k : ℕ) → k < count J → eqb (deadline J k) (suc b) ≡ false) → Overfull J a (suc b) → Overfull J a b
+  -- one slot less at the end has the same jobs inside, where none has its deadline there
+  pub end-unused : (a b : ℕ) → ((k : ℕ) → k < count J → eqb (deadline J k) (suc b) ≡ false) → volumeInside J a (suc b) ≡ volumeInside J a b
   unfolding volumeInside
-  cut-end p a b h o = go (decLt a b)
+  end-unused a b h = sum-ext (count J) _ _ (λ j l. same-tests a (suc b) a b j refl (test (deadline J j) (eqb-false (deadline J j) (suc b) (h j l)) (decLe (deadline J j) b)))
     where
       test : (d : ℕ) → (d ≡ suc b → ⊥) → Dec (d ≤ b) → leb d (suc b) ≡ leb d b
       test d n (yes l) = le-leb d (suc b) (omega arith) ∙ sym (le-leb d b l)
       test d n (no l) = lt-leb d (suc b) (omega arith) ∙ sym (lt-leb d b (omega arith))
 
-      same : volumeInside J a (suc b) ≡ volumeInside J a b
-      same = sum-ext (count J) _ _ (λ j l. same-tests a (suc b) a b j refl (test (deadline J j) (eqb-false (deadline J j) (suc b) (h j l)) (decLe (deadline J j) b)))
-
+  cut-end : Passes J → (a b : ℕ) → ((k : ℕ) → k < count J → eqb (deadline J k) (suc b) ≡ false) → Overfull J a (suc b) → Overfull J a b
+  cut-end p a b h o = go (decLt a b)
+    where
       go : Dec (a < b) → Overfull J a b
-      go (yes l) = record { span = l; within = omega (arith, o .within); more = omega (arith, o .more, same) }
-      go (no l) = absurd (omega (arith, o .more, same, empty-inside p a b (omega arith)))
+      go (yes l) = record { span = l; within = omega (arith, o .within); more = omega (arith, o .more, end-unused a b h) }
+      go (no l) = absurd (omega (arith, o .more, end-unused a b h, empty-inside p a b (omega arith)))
 
-  -- one slot less at the start, where no job has its release there
-  cut-start : Passes J → (a b : ℕ) → ((k : ℕ) → k < count J → eqb (release J k) a ≡ false) → Overfull J a b → Overfull J (suc a) b
+  -- one slot less at the start has the same jobs inside, where none has its release there
+  pub start-unused : (a b : ℕ) → ((k : ℕ) → k < count J → eqb (release J k) a ≡ false) → volumeInside J a b ≡ volumeInside J (suc a) b
   unfolding volumeInside
-  cut-start p a b h o = go (decLt (suc a) b)
+  start-unused a b h = sum-ext (count J) _ _ (λ j l. same-tests a b (suc a) b j (test (release J j) (eqb-false (release J j) a (h j l)) (decLt a (release J j))) refl)
     where
       test : (r : ℕ) → (r ≡ a → ⊥) → Dec (a < r) → leb a r ≡ leb (suc a) r
       test r n (yes l) = le-leb a r (omega arith) ∙ sym (le-leb (suc a) r l)
       test r n (no l) = lt-leb a r (omega arith) ∙ sym (lt-leb (suc a) r (omega arith))
 
-      same : volumeInside J a b ≡ volumeInside J (suc a) b
-      same = sum-ext (count J) _ _ (λ j l. same-tests a b (suc a) b j (test (release J j) (eqb-false (release J j) a (h j l)) (decLt a (release J j))) refl)
-
+  cut-start : Passes J → (a b : ℕ) → ((k : ℕ) → k < count J → eqb (release J k) a ≡ false) → Overfull J a b → Overfull J (suc a) b
+  cut-start p a b h o = go (decLt (suc a) b)
+    where
       go : Dec (suc a < b) → Overfull J (suc a) b
-      go (yes l) = record { span = l; within = o .within; more = omega (arith, o .more, same) }
-      go (no l) = absurd (omega (arith, o .more, same, empty-inside p (suc a) b (omega arith)))
+      go (yes l) = record { span = l; within = o .within; more = omega (arith, o .more, start-unused a b h) }
+      go (no l) = absurd (omega (arith, o .more, start-unused a b h, empty-inside p (suc a) b (omega arith)))
 
   -- an overloaded interval cut back to a job's deadline
   pub to-deadline : Passes J → (a b : ℕ) → Overfull J a b → (k : ℕ) × (k < count J) × (deadline J k ≤ b) × Overfull J a (deadline J k)

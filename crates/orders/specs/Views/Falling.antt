@@ -66,6 +66,11 @@ unfolding sumBelow total
 total-places f [] = refl
 total-places f (x ∷ l) = sum-first (length l) (λ k. f (jobAt (x ∷ l) k)) ∙ ap (λ (s : ℕ). f x + s) (total-places f l)
 
+-- a sum over the places of the sort is one over the numbers
+pub places-sum : (key f : ℕ → ℕ) (n : ℕ) → sumBelow n (λ k. f (jobAt (risingBy key n) k)) ≡ sumBelow n f
+places-sum key f n =
+    ap (λ (m : ℕ). sumBelow m (λ k. f (jobAt (risingBy key n) k))) (sym (rising-length key n)) ∙ total-places f (risingBy key n) ∙ rising-once key f n
+
 module _ (key other : ℕ → ℕ) (n : ℕ) (ranks : List ℕ) (e : ranks ≡ risingBy other n) where
   long : length ranks ≡ n
   long = ap length e ∙ rising-length other n

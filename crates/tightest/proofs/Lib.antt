@@ -1,0 +1,7 @@
+pub mod Machine
+pub mod Seeking
+pub mod Walk
+pub mod Walking
+pub mod Choosing
+pub mod EndByEnd
+pub mod Reporting

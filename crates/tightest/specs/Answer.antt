@@ -1,0 +1,49 @@
+-- 02, card 7: the answer for every list, and the number and values of each case.
+use Prim.Native.Nat.{ℕ}
+use mathlib.Core.Path.{_≡_}
+use mathlib.Core.List.{List, [], _∷_}
+use lib.Dec.{eqb}
+use lib.IntN.{ℤ, pos}
+use Rattle.sched.specs.Jobs.{Jobs, count}
+use Rattle.sched.specs.Refusals.{number, place}
+use Rattle.sched.specs.Checks.{refuseIf, andThen, checkOf}
+use Rattle.sched.specs.declared.Refusal.the-variants.{NoJobs}
+use Rattle.sched.specs.declared.Checked.{Checked}
+use Rattle.sched.specs.declared.Checked.the-variants.{Passed, Refused as Faulty}
+use Rattle.tightest.specs.declared.Tight.{Tight}
+use Rattle.tightest.specs.declared.Reported.{Reported}
+use Rattle.tightest.specs.declared.Reported.the-variants.{Found, Refused}
+use Rattle.tightest.specs.Slack.{tightestOf, IsTightest}
+pub mod Laws
+
+-- "34, place 0, the list has no jobs."
+abbrev pub noJobsCheck : ℕ → Checked
+noJobsCheck n = refuseIf (eqb n 0) (NoJobs 0) Passed
+
+-- "It comes after 15 and its finer kin.": behind all list checks; a list without jobs can have 12 for H or 19, and has no faulty job
+abbrev pub reportCheck : Jobs → Checked
+reportCheck J = andThen (checkOf J) (noJobsCheck (count J))
+
+-- where no check fails, the tightest interval is reported
+abbrev pub tells : Checked → Tight → Reported
+tells Passed x = Found x
+tells (Faulty r) x = Refused r
+
+unfoldable pub reported : Jobs → Reported
+reported J = tells (reportCheck J) (tightestOf J)
+
+-- a refusal has 01's and 02's number with its place, an interval its slack, a and b; that an interval has the number 0 is ours
+abbrev pub reportedNumber : Reported → ℕ
+reportedNumber (Found x) = 0
+reportedNumber (Refused r) = number r
+
+abbrev pub reportedValues : Reported → List ℤ
+reportedValues (Found x) = x .slack ∷ pos (x .a) ∷ pos (x .b) ∷ []
+reportedValues (Refused r) = pos (place r) ∷ []
+
+-- the promise: the number and the values that come back are those of the definition, and so is the case; and an interval that comes back is the tightest
+pub record ReportPromise (J : Jobs) (answer : Reported) : Type 0 where
+  pub number : reportedNumber answer ≡ reportedNumber (reported J)
+  pub values : reportedValues answer ≡ reportedValues (reported J)
+  pub same : answer ≡ reported J
+  pub tightest : (x : Tight) → answer ≡ Found x → IsTightest J x

@@ -1,0 +1,79 @@
+-- When an interval is reported, and what each check leaves to say.
+use Prim.Native.Nat.{ℕ, _<_}
+use mathlib.Core.Path.{_≡_, refl, sym, ap, subst, _∙_}
+use mathlib.Core.Bool.{Bool, true, false}
+use native.Mathlib.Omega.{arith}
+use borrow.Author.Tests.{eqb-true, eqb-false}
+use lib.Dec.{eqb}
+use Rattle.sched.specs.Jobs.{Jobs, count}
+use Rattle.sched.specs.Refusals.Laws.{refusal-number}
+use Rattle.sched.specs.Checks.{Passes, refuseIf, checkOf}
+use Rattle.sched.specs.Checks.Laws.{refuse-passed, then-passed, then-fails, then-passes, passed-passes, passes-passed}
+use Rattle.sched.specs.declared.Refusal.{Refusal}
+use Rattle.sched.specs.declared.Refusal.the-variants.{NoJobs}
+use Rattle.sched.specs.declared.Checked.{Checked}
+use Rattle.sched.specs.declared.Checked.the-variants.{Passed, Refused as Faulty}
+use Rattle.tightest.specs.declared.Tight.{Tight}
+use Rattle.tightest.specs.declared.Reported.{Reported}
+use Rattle.tightest.specs.declared.Reported.the-variants.{Found, Refused}
+use Rattle.tightest.specs.Slack.{tightestOf, IsTightest}
+use Rattle.tightest.specs.Slack.Laws.{tightest-found, tightest-one}
+use Rattle.tightest.specs.Answer.{noJobsCheck, reportCheck, tells, reported, reportedNumber, reportedValues, ReportPromise}
+
+pub some-good : (n : ℕ) → noJobsCheck n ≡ Passed → 0 < n
+some-good n e = omega (arith, eqb-false n 0 (refuse-passed (eqb n 0) (NoJobs 0) Passed e .0))
+
+some-passes : (n : ℕ) → 0 < n → noJobsCheck n ≡ Passed
+some-passes n l = go (eqb n 0) refl
+  where
+    go : (t : Bool) → eqb n 0 ≡ t → refuseIf t (NoJobs 0) Passed ≡ Passed
+    go true e = absurd (omega (arith, eqb-true n 0 e))
+    go false e = refl
+
+module _ (J : Jobs) where
+  -- an interval is reported of a list that passes the list checks and has a job, and of no other
+
+  pub found-if : Passes J → 0 < count J → reported J ≡ Found (tightestOf J)
+  unfolding reported
+  found-if p some =
+      ap (λ (c : Checked). tells c (tightestOf J)) (then-passes (checkOf J) (noJobsCheck (count J)) (passes-passed J p) ∙ some-passes (count J) some)
+
+  pub found-checked : (x : Tight) → reported J ≡ Found x → Passes J × (0 < count J)
+  unfolding reported
+  found-checked x e = go (reportCheck J) refl
+    where
+      go : (c : Checked) → reportCheck J ≡ c → Passes J × (0 < count J)
+      go Passed f =
+          let (list, some) = then-passed (checkOf J) (noJobsCheck (count J)) f in
+          (passed-passes J list, some-good (count J) some)
+      go (Faulty r) f = absurd (refusal-number r (sym (ap (λ (c : Checked). reportedNumber (tells c (tightestOf J))) f) ∙ ap reportedNumber e))
+
+  -- the promise, from the answer alone
+  pub promised : (answer : Reported) → answer ≡ reported J → ReportPromise J answer
+  promised answer same =
+      record {
+        number = ap reportedNumber same;
+        values = ap reportedValues same;
+        same = same;
+        tightest = λ x e. found x (sym same ∙ e);
+      }
+    where
+      found : (x : Tight) → reported J ≡ Found x → IsTightest J x
+      found x e =
+          let (p, some) = found-checked x e in
+          let y : tightestOf J ≡ x = inside (sym (found-if p some) ∙ e) in
+          subst (IsTightest J) y (tightest-found J p some)
+        where
+          inside : {x y : Tight} → Found x ≡ Found y → x ≡ y
+          inside f = cc
+
+  pub list-refused : (r : Refusal) → checkOf J ≡ Faulty r → ReportPromise J (Refused r)
+  unfolding reported
+  list-refused r e = promised (Refused r) (sym (ap (λ (c : Checked). tells c (tightestOf J)) (then-fails (checkOf J) (noJobsCheck (count J)) r e)))
+
+  pub jobs-refused : (r : Refusal) → checkOf J ≡ Passed → noJobsCheck (count J) ≡ Faulty r → ReportPromise J (Refused r)
+  unfolding reported
+  jobs-refused r e f = promised (Refused r) (sym (ap (λ (c : Checked). tells c (tightestOf J)) (then-passes (checkOf J) (noJobsCheck (count J)) e ∙ f)))
+
+  pub tightest-reported : Passes J → 0 < count J → (x : Tight) → IsTightest J x → ReportPromise J (Found x)
+  tightest-reported p some x t = promised (Found x) (ap Found (tightest-one J x (tightestOf J) t (tightest-found J p some)) ∙ sym (found-if p some))
