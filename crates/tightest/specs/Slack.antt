@@ -1,8 +1,7 @@
 -- 02, card 7: intervals from a release to a deadline, their slack, and the tightest of them.
-use Prim.Native.Nat.{ℕ, _≤_, _<_}
+use Prim.Native.Nat.{ℕ, zero, suc, _≤_, _<_}
 use mathlib.Core.Path.{_≡_}
 use mathlib.Core.Bool.{Bool, true, false, _&&_, _||_}
-use mathlib.Core.List.{List, [], _∷_}
 use lib.Dec.{leb, ltb}
 use lib.IntN.{ℤ, pos, _-ℤ_}
 use lib.Signed.{ltZ, leZ, _≤ℤ_}
@@ -29,19 +28,19 @@ tighter x y =
 unfoldable pub tryPair : Jobs → Tight → ℕ → ℕ → Tight
 tryPair J best a b = elim (ltb a b && tighter (gauged J a b) best) [ true ↦ gauged J a b | false ↦ best ]
 
--- "from some job's release a": from each of these to b
-unfoldable pub tryStarts : Jobs → Tight → List ℕ → ℕ → Tight
-tryStarts J best [] b = best
-tryStarts J best (a ∷ more) b = tryStarts J (tryPair J best a b) more b
+-- "from some job's release a": from the releases of the first k jobs to the deadline of job j
+unfoldable pub tryStarts : Jobs → Tight → ℕ → ℕ → Tight
+tryStarts J best zero j = best
+tryStarts J best (suc k) j = tryPair J (tryStarts J best k j) (release J k) (deadline J j)
 
--- "to some job's deadline b": from each release to each of these
-unfoldable pub tryEnds : Jobs → Tight → List ℕ → Tight
-tryEnds J best [] = best
-tryEnds J best (b ∷ more) = tryEnds J (tryStarts J best (J .releases) b) more
+-- "to some job's deadline b": from every release to the deadlines of the first k jobs
+unfoldable pub tryEnds : Jobs → Tight → ℕ → Tight
+tryEnds J best zero = best
+tryEnds J best (suc k) = tryStarts J (tryEnds J best k) (count J) k
 
--- every pair of a release and a deadline, beginning with those of job 0, which are an interval where the list passes the checks and has a job
+-- every pair of jobs is tried; the first job's own interval, which is one of them, to begin with
 unfoldable pub tightestOf : Jobs → Tight
-tightestOf J = tryEnds J (gauged J (release J 0) (deadline J 0)) (J .deadlines)
+tightestOf J = tryEnds J (gauged J (release J 0) (deadline J 0)) (count J)
 
 -- The same in words, for promises to name
 

@@ -1,6 +1,7 @@
 -- `rather` meets its contract: the slacks are compared first, then the ends.
 use mathlib.Core.Path.{ap, _∙_}
 use mathlib.Core.Bool.{true, false}
+use native.Mathlib.Omega.{arith}
 use mir.Syntax.{w32}
 use mir.Val.{SFits, ofZ}
 use mir.ValLaws.{toZ-ofZ}
@@ -23,7 +24,7 @@ returns-2 c =
     let args = c .before .before .before .before .before .before .before .args in
     let fx : SFits w32 (args .x .slack) = search needs in
     let fy : SFits w32 (args .y .slack) = search needs in
-    ends-first (args .x) (args .y) (same-is (args .x .slack) (args .y .slack) fx fy (c .before .before .before .if2 .taken)) (c .if3 .taken)
+    ends-first (args .x) (args .y) (same-is (args .x .slack) (args .y .slack) fx fy (c .before .before .before .if2 .taken)) (omega (arith, c .if3 .taken))
 
 returns-3 : tie.Need-returns-3
 returns-3 c =
@@ -31,7 +32,7 @@ returns-3 c =
     let fx : SFits w32 (args .x .slack) = search needs in
     let fy : SFits w32 (args .y .slack) = search needs in
     ap (λ (z : ℤ). record { slack = z; a = args .y .a; b = args .y .b }) (toZ-ofZ w32 (args .y .slack) fy)
-    ∙ ends-later (args .x) (args .y) (same-is (args .x .slack) (args .y .slack) fx fy (c .before .before .before .if2 .taken)) (c .if3 .left)
+    ∙ ends-later (args .x) (args .y) (same-is (args .x .slack) (args .y .slack) fx fy (c .before .before .before .if2 .taken)) (omega (arith, c .if3 .left))
 
 returns-4 : tie.Need-returns-4
 returns-4 c =

@@ -31,12 +31,19 @@ some-passes n l = go (eqb n 0) refl
     go false e = refl
 
 module _ (J : Jobs) where
+  -- a fault of the list comes first, then 34
+
+  list-first : (r : Refusal) → checkOf J ≡ Faulty r → reportCheck J ≡ Faulty r
+  list-first r e = then-fails (checkOf J) (noJobsCheck (count J)) r e
+
+  jobs-next : checkOf J ≡ Passed → reportCheck J ≡ noJobsCheck (count J)
+  jobs-next e = then-passes (checkOf J) (noJobsCheck (count J)) e
+
   -- an interval is reported of a list that passes the list checks and has a job, and of no other
 
   pub found-if : Passes J → 0 < count J → reported J ≡ Found (tightestOf J)
   unfolding reported
-  found-if p some =
-      ap (λ (c : Checked). tells c (tightestOf J)) (then-passes (checkOf J) (noJobsCheck (count J)) (passes-passed J p) ∙ some-passes (count J) some)
+  found-if p some = ap (λ (c : Checked). tells c (tightestOf J)) (jobs-next (passes-passed J p) ∙ some-passes (count J) some)
 
   pub found-checked : (x : Tight) → reported J ≡ Found x → Passes J × (0 < count J)
   unfolding reported
@@ -69,11 +76,11 @@ module _ (J : Jobs) where
 
   pub list-refused : (r : Refusal) → checkOf J ≡ Faulty r → ReportPromise J (Refused r)
   unfolding reported
-  list-refused r e = promised (Refused r) (sym (ap (λ (c : Checked). tells c (tightestOf J)) (then-fails (checkOf J) (noJobsCheck (count J)) r e)))
+  list-refused r e = promised (Refused r) (sym (ap (λ (c : Checked). tells c (tightestOf J)) (list-first r e)))
 
   pub jobs-refused : (r : Refusal) → checkOf J ≡ Passed → noJobsCheck (count J) ≡ Faulty r → ReportPromise J (Refused r)
   unfolding reported
-  jobs-refused r e f = promised (Refused r) (sym (ap (λ (c : Checked). tells c (tightestOf J)) (then-passes (checkOf J) (noJobsCheck (count J)) e ∙ f)))
+  jobs-refused r e f = promised (Refused r) (sym (ap (λ (c : Checked). tells c (tightestOf J)) (jobs-next e ∙ f)))
 
   pub tightest-reported : Passes J → 0 < count J → (x : Tight) → IsTightest J x → ReportPromise J (Found x)
   tightest-reported p some x t = promised (Found x) (ap Found (tightest-one J x (tightestOf J) t (tightest-found J p some)) ∙ sym (found-if p some))

@@ -2,15 +2,13 @@
 use Prim.Native.Nat.{ℕ, zero, suc, _≤_, _<_}
 use mathlib.Core.Path.{_≡_, refl, sym, ap, subst, _∙_}
 use mathlib.Core.Bool.{Bool, true, false, _&&_, _||_}
-use mathlib.Core.List.{List, [], _∷_}
 use mathlib.Core.Logic.{_⊎_, inl, inr}
 use native.Mathlib.Omega.{arith}
 use borrow.Author.Tests.{lt-ltb, ltb-true, ltb-false, leb-true, leb-false}
-use lib.ListN.{length, getD}
 use lib.Dec.{leb, ltb}
 use lib.IntN.{ℤ}
 use lib.Signed.{ltZ, leZ, _≤ℤ_, _<ℤ_, ≤ℤ-refl, clashℤ}
-use Rattle.sched.specs.Bounded.Laws.{by-bool, true-not-false, and-true, or-true, or-false}
+use Rattle.sched.specs.Bounded.Laws.{lt-suc, by-bool, true-not-false, and-true, or-true, or-false}
 use Rattle.sched.specs.Jobs.{Jobs, count, release, deadline}
 use Rattle.sched.specs.Checks.{Passes}
 use Rattle.tightest.specs.declared.Tight.{Tight}
@@ -141,57 +139,51 @@ module _ (J : Jobs) where
           }
       go false e = g
 
-  starts-good : (best : Tight) (starts : List ℕ) (b : ℕ) →
-      AsGood (tryStarts J best starts b) best ×
-      ((i : ℕ) → i < length starts → getD starts i 0 < b → AsGood (tryStarts J best starts b) (gauged J (getD starts i 0) b))
+  starts-good : (best : Tight) (k j : ℕ) →
+      AsGood (tryStarts J best k j) best ×
+      ((i : ℕ) → i < k → release J i < deadline J j → AsGood (tryStarts J best k j) (gauged J (release J i) (deadline J j)))
   unfolding tryStarts
-  starts-good best [] b = (as-good-self best, λ i l m. absurd (omega arith))
-  starts-good best (a ∷ more) b =
-      let (kept, tried) = pair-good best a b in
-      let (rest, all) = starts-good (tryPair J best a b) more b in
-      (as-good-trans rest kept, each rest tried all)
+  starts-good best zero j = (as-good-self best, λ i l m. absurd (omega arith))
+  starts-good best (suc k) j =
+      let (kept, all) = starts-good best k j in
+      let (last, tried) = pair-good (tryStarts J best k j) (release J k) (deadline J j) in
+      (as-good-trans last kept, λ i l m. each last tried all i m (lt-suc l))
     where
-      each : AsGood (tryStarts J (tryPair J best a b) more b) (tryPair J best a b) → (a < b → AsGood (tryPair J best a b) (gauged J a b)) →
-          ((i : ℕ) → i < length more → getD more i 0 < b → AsGood (tryStarts J (tryPair J best a b) more b) (gauged J (getD more i 0) b)) →
-          (i : ℕ) → i < length (a ∷ more) → getD (a ∷ more) i 0 < b → AsGood (tryStarts J (tryPair J best a b) more b) (gauged J (getD (a ∷ more) i 0) b)
-      each rest tried all zero l m = as-good-trans rest (tried m)
-      each rest tried all (suc i) l m = all i (omega arith) m
+      each : AsGood (tryPair J (tryStarts J best k j) (release J k) (deadline J j)) (tryStarts J best k j) →
+          (release J k < deadline J j → AsGood (tryPair J (tryStarts J best k j) (release J k) (deadline J j)) (gauged J (release J k) (deadline J j))) →
+          ((i : ℕ) → i < k → release J i < deadline J j → AsGood (tryStarts J best k j) (gauged J (release J i) (deadline J j))) →
+          (i : ℕ) → release J i < deadline J j → (i < k) ⊎ (i ≡ k) →
+          AsGood (tryPair J (tryStarts J best k j) (release J k) (deadline J j)) (gauged J (release J i) (deadline J j))
+      each last tried all i m (inl l) = as-good-trans last (all i l m)
+      each last tried all i m (inr e) = rw e (tried (rw (← e) m))
 
-  ends-good : (best : Tight) (ends : List ℕ) →
-      AsGood (tryEnds J best ends) best ×
-      ((i j : ℕ) → i < count J → j < length ends → release J i < getD ends j 0 → AsGood (tryEnds J best ends) (gauged J (release J i) (getD ends j 0)))
-  unfolding tryEnds
-  ends-good best [] = (as-good-self best, λ i j l m. absurd (omega arith))
-  ends-good best (b ∷ more) =
-      let (kept, tried) = starts-good best (J .releases) b in
-      let (rest, all) = ends-good (tryStarts J best (J .releases) b) more in
-      (as-good-trans rest kept, each rest tried all)
-    where
-      each : AsGood (tryEnds J (tryStarts J best (J .releases) b) more) (tryStarts J best (J .releases) b) →
-          ((i : ℕ) → i < count J → release J i < b → AsGood (tryStarts J best (J .releases) b) (gauged J (release J i) b)) →
-          ((i j : ℕ) → i < count J → j < length more → release J i < getD more j 0 → AsGood (tryEnds J (tryStarts J best (J .releases) b) more) (gauged J (release J i) (getD more j 0))) →
-          (i j : ℕ) → i < count J → j < length (b ∷ more) → release J i < getD (b ∷ more) j 0 → AsGood (tryEnds J (tryStarts J best (J .releases) b) more) (gauged J (release J i) (getD (b ∷ more) j 0))
-      each rest tried all i zero l m n = as-good-trans rest (tried i l n)
-      each rest tried all i (suc j) l m n = all i j l (omega arith) n
-
-  starts-gauged : (best : Tight) (starts : List ℕ) (j : ℕ) → j < count J →
-      ((k : ℕ) → k < length starts → (i : ℕ) × (i < count J) × (release J i ≡ getD starts k 0)) →
-      Gauged J best → Gauged J (tryStarts J best starts (deadline J j))
+  starts-gauged : (best : Tight) (k j : ℕ) → k ≤ count J → j < count J → Gauged J best → Gauged J (tryStarts J best k j)
   unfolding tryStarts
-  starts-gauged best [] j m known g = g
-  starts-gauged best (a ∷ more) j m known g =
-      let (i, l, e) = known 0 (omega arith) in
-      starts-gauged (tryPair J best a (deadline J j)) more j m (λ k n. known (suc k) (omega arith))
-      (subst (λ (x : ℕ). Gauged J (tryPair J best x (deadline J j))) e (pair-gauged best i j l m g))
+  starts-gauged best zero j l m g = g
+  starts-gauged best (suc k) j l m g = pair-gauged (tryStarts J best k j) k j (omega arith) m (starts-gauged best k j (omega arith) m g)
 
-  ends-gauged : (best : Tight) (ends : List ℕ) → ((k : ℕ) → k < length ends → (j : ℕ) × (j < count J) × (deadline J j ≡ getD ends k 0)) →
-      Gauged J best → Gauged J (tryEnds J best ends)
+  ends-good : (best : Tight) (k : ℕ) →
+      AsGood (tryEnds J best k) best ×
+      ((i j : ℕ) → i < count J → j < k → release J i < deadline J j → AsGood (tryEnds J best k) (gauged J (release J i) (deadline J j)))
   unfolding tryEnds
-  ends-gauged best [] known g = g
-  ends-gauged best (b ∷ more) known g =
-      let (j, m, e) = known 0 (omega arith) in
-      ends-gauged (tryStarts J best (J .releases) b) more (λ k n. known (suc k) (omega arith))
-      (subst (λ (x : ℕ). Gauged J (tryStarts J best (J .releases) x)) e (starts-gauged best (J .releases) j m (λ k n. (k, n, refl)) g))
+  ends-good best zero = (as-good-self best, λ i j l m. absurd (omega arith))
+  ends-good best (suc k) =
+      let (kept, all) = ends-good best k in
+      let (last, tried) = starts-good (tryEnds J best k) (count J) k in
+      (as-good-trans last kept, λ i j l m n. each last tried all i j l n (lt-suc m))
+    where
+      each : AsGood (tryStarts J (tryEnds J best k) (count J) k) (tryEnds J best k) →
+          ((i : ℕ) → i < count J → release J i < deadline J k → AsGood (tryStarts J (tryEnds J best k) (count J) k) (gauged J (release J i) (deadline J k))) →
+          ((i j : ℕ) → i < count J → j < k → release J i < deadline J j → AsGood (tryEnds J best k) (gauged J (release J i) (deadline J j))) →
+          (i j : ℕ) → i < count J → release J i < deadline J j → (j < k) ⊎ (j ≡ k) →
+          AsGood (tryStarts J (tryEnds J best k) (count J) k) (gauged J (release J i) (deadline J j))
+      each last tried all i j l n (inl m) = as-good-trans last (all i j l m n)
+      each last tried all i j l n (inr e) = rw e (tried i l (rw (← e) n))
+
+  ends-gauged : (best : Tight) (k : ℕ) → k ≤ count J → Gauged J best → Gauged J (tryEnds J best k)
+  unfolding tryEnds
+  ends-gauged best zero l g = g
+  ends-gauged best (suc k) l g = starts-gauged (tryEnds J best k) (count J) k (omega arith) (omega arith) (ends-gauged best k (omega arith) g)
 
   -- an interval that is as good as each is the tightest
   pub best-tightest : (x : Tight) → Gauged J x → ((a b : ℕ) → Spans J a b → AsGood x (gauged J a b)) → IsTightest J x
@@ -207,8 +199,8 @@ module _ (J : Jobs) where
   pub tightest-found : Passes J → 0 < count J → IsTightest J (tightestOf J)
   unfolding tightestOf
   tightest-found p some =
-      best-tightest (tryEnds J first (J .deadlines))
-      (ends-gauged first (J .deadlines) (λ k l. (k, omega (arith, p .same-deadlines), refl))
+      best-tightest (tryEnds J first (count J))
+      (ends-gauged first (count J) (omega arith)
       (record { spans = record { released = (0, some, refl); due = (0, some, refl); ahead = p .good 0 some .span }; slack-is = refl }))
       (λ a b s. tried a b s (s .released) (s .due))
     where
@@ -216,9 +208,8 @@ module _ (J : Jobs) where
       first = gauged J (release J 0) (deadline J 0)
 
       tried : (a b : ℕ) → Spans J a b → (i : ℕ) × (i < count J) × (release J i ≡ a) → (j : ℕ) × (j < count J) × (deadline J j ≡ b) →
-          AsGood (tryEnds J first (J .deadlines)) (gauged J a b)
-      tried a b s (i, l, e) (j, m, f) =
-          rw (← e) (rw (← f) (ends-good first (J .deadlines) .1 i j l (omega (arith, p .same-deadlines)) (omega (arith, s .ahead, e, f))))
+          AsGood (tryEnds J first (count J)) (gauged J a b)
+      tried a b s (i, l, e) (j, m, f) = rw (← e) (rw (← f) (ends-good first (count J) .1 i j l m (omega (arith, s .ahead, e, f))))
 
   -- there is only one
   pub tightest-one : (x y : Tight) → IsTightest J x → IsTightest J y → x ≡ y
