@@ -1,7 +1,7 @@
 // What the test programs share: numbers and bytes printed, digests, counts, numbers by chance, parts of lists, and tables. That a function prints what is
 // said above it, the `stdout` of the programs shows; it is not proved.
 ghost use mathlib.Core.Path.{_≡_};
-ghost use Prim.Native.Nat.{_+_, _*_, _%_, _^_};
+ghost use Prim.Native.Nat.{_+_, _*_, _/_, _%_, _^_, _<_};
 ghost use lib.ListN.{length, getD, take, set, replicate};
 ghost use Rattle.test_bytes.specs.Bytes.{digestFrom, turnsFrom};
 use libc::STDOUT_FILENO;
@@ -54,6 +54,21 @@ pub fn next(state: u64) -> u64
     ensures { λ r. ⌜ r ≡ (state % 2147483648 * 1103515245 + 12345) % 2147483648 ⌝ }
 {
     (state % 2147483648 * 1103515245 + 12345) % 2147483648
+}
+
+// A number below m from a state, whose lowest bits are left alone. That it is below m is there for safety.
+pub fn below(state: u64, m: u64) -> u64
+    requires { ⌜ 0 < m ⌝ }
+    ensures { λ r. ⌜ (r ≡ state / 65536 % m) × (r < m) ⌝ }
+{
+    state / 65536 % m
+}
+
+// The sum modulo 2^64.
+pub fn plus(x: u64, y: u64) -> u64
+    ensures { λ r. ⌜ r ≡ (x + y) % 2 ^ 64 ⌝ }
+{
+    std::num::wrapping_add_u64(x, y)
 }
 
 // One more at an index; nothing past the end.
@@ -130,6 +145,15 @@ pub fn at(s: &[u16], i: usize) -> u16
     ensures { λ r. ⌜ r ≡ getD (now (s .entry)) i 0 ⌝ }
 {
     if i < s.len() { s[i] } else { 0 }
+}
+
+// Stores the entry at an index; nothing past the end.
+pub fn put_entry(list: &mut [u16], at: usize, x: u16)
+    ensures { λ _. ⌜ now (list .exit) ≡ set (now (list .entry)) at x ⌝ }
+{
+    if at < list.len() {
+        list[at] = x;
+    }
 }
 
 // The first n bytes, or all where there are fewer.

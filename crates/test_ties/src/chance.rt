@@ -1,20 +1,13 @@
 // Lists by chance, with at most four deadlines.
 ghost use mathlib.Core.Path.{_≡_};
 ghost use Prim.Native.Nat.{_+_, _-_, _*_, _/_, _%_, _<_, _≤_};
-use super::lists::put;
 use super::tally;
 use super::tally::Tally;
+use test_bytes::below;
 use test_bytes::first_entries;
 use test_bytes::next;
 use test_bytes::number;
-
-// A number below m from a state, whose lowest bits are left alone. That it is below m is there for safety.
-fn below(state: u64, m: u64) -> u64
-    requires { ⌜ 0 < m ⌝ }
-    ensures { λ r. ⌜ (r ≡ state / 65536 % m) × (r < m) ⌝ }
-{
-    state / 65536 % m
-}
+use test_bytes::put_entry;
 
 // What is drawn first: slots, jobs, wake cost, how many deadlines there are, the greatest volume; and the state behind that.
 struct Sizes {
@@ -104,9 +97,9 @@ fn jobs(size: Sizes, releases: &mut [u16], deadlines: &mut [u16], volumes: &mut 
         let begin = next(due);
         s = next(begin);
         let d = deadline(size.h, below(due, size.deadlines));
-        put(deadlines, j, d);
-        put(releases, j, release(d, begin));
-        put(volumes, j, volume(size.volumes, s));
+        put_entry(deadlines, j, d);
+        put_entry(releases, j, release(d, begin));
+        put_entry(volumes, j, volume(size.volumes, s));
         j += 1;
     }
     s

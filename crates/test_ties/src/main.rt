@@ -4,7 +4,6 @@
 mod tally; // tally.rt: what the planner answers to many lists
 mod worked; // worked.rt: single lists
 mod short; // short.rt: every short list
-mod lists; // lists.rt: entries of longer lists
 mod rows; // rows.rt: a list again and again
 mod chance; // chance.rt: lists by chance
 

@@ -2,10 +2,10 @@
 ghost use Prim.Native.Nat.{_<_, _≤_};
 ghost use lib.ListN.{length};
 use super::tally;
-use super::tally::plus;
 use test_bytes::at;
 use test_bytes::first_entries;
 use test_bytes::number;
+use test_bytes::plus;
 
 // Writes the m entries of a list again and again, each time greater by w.
 fn copy_on(entries: &[u16], m: usize, w: u16, out: &mut [u16]) {

@@ -1,12 +1,11 @@
 // What the planner answers to many lists.
-ghost use mathlib.Core.Path.{_≡_};
-ghost use Prim.Native.Nat.{_+_, _%_, _^_};
 use sched::Interval;
 use sched::Outcome;
 use sched::PlanFigures;
 use sched::Refusal;
 use test_bytes::mixed;
 use test_bytes::number;
+use test_bytes::plus;
 
 // How many lists were planned, refused or overloaded; the figures of the plans and how often the job changes in their tables, added up; and a digest
 // of all answers and tables. The sums are modulo 2^64, which none here comes near.
@@ -35,13 +34,6 @@ pub fn nothing() -> Tally {
         changes: 0,
         sum: 0,
     }
-}
-
-// The sum modulo 2^64.
-pub fn plus(x: u64, y: u64) -> u64
-    ensures { λ r. ⌜ r ≡ (x + y) % 2 ^ 64 ⌝ }
-{
-    std::num::wrapping_add_u64(x, y)
 }
 
 // The job of the latest working slot, when one more slot is looked at; 255 stands for none.

@@ -1,20 +1,13 @@
 // Lists by chance, of none to 64 jobs that pass the checks.
 ghost use mathlib.Core.Path.{_≡_};
 ghost use Prim.Native.Nat.{_+_, _/_, _%_, _<_, _≤_};
-ghost use lib.ListN.{set};
 use super::tally;
 use super::tally::Tally;
+use test_bytes::below;
 use test_bytes::first_entries;
 use test_bytes::next;
 use test_bytes::number;
-
-// A number below m from a state, whose lowest bits are left alone. That it is below m is there for safety.
-fn below(state: u64, m: u64) -> u64
-    requires { ⌜ 0 < m ⌝ }
-    ensures { λ r. ⌜ (r ≡ state / 65536 % m) × (r < m) ⌝ }
-{
-    state / 65536 % m
-}
+use test_bytes::put_entry;
 
 // The kinds of lists: at most so many slots, and volumes of at most so much.
 struct Kind {
@@ -69,15 +62,6 @@ fn volume(most: u64, state: u64) -> u16
     (1 + below(state, most)) as u16
 }
 
-// Stores the entry at an index; nothing past the end.
-fn put(list: &mut [u16], at: usize, x: u16)
-    ensures { λ _. ⌜ now (list .exit) ≡ set (now (list .entry)) at x ⌝ }
-{
-    if at < list.len() {
-        list[at] = x;
-    }
-}
-
 // Draws the jobs into the lists, and tells the state behind the last.
 fn jobs(size: Sizes, releases: &mut [u16], deadlines: &mut [u16], volumes: &mut [u16]) -> u64
     requires { ⌜ (0 < size .h) × (size .h ≤ 4096) × (0 < size .volumes) × (size .volumes ≤ 32768) ⌝ }
@@ -89,9 +73,9 @@ fn jobs(size: Sizes, releases: &mut [u16], deadlines: &mut [u16], volumes: &mut 
         let begin = next(due);
         s = next(begin);
         let d = deadline(size.h, due);
-        put(deadlines, j, d);
-        put(releases, j, release(d, begin));
-        put(volumes, j, volume(size.volumes, s));
+        put_entry(deadlines, j, d);
+        put_entry(releases, j, release(d, begin));
+        put_entry(volumes, j, volume(size.volumes, s));
         j += 1;
     }
     s

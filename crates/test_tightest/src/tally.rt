@@ -1,17 +1,16 @@
 // The answers to many lists, and the planner's.
-ghost use mathlib.Core.Path.{_≡_};
-ghost use Prim.Native.Nat.{_+_, _%_, _^_};
 use super::answer::magnitude;
 use super::answer::negative;
 use sched::Outcome;
 use sched::Refusal;
 use test_bytes::mixed;
 use test_bytes::number;
+use test_bytes::plus;
 use tightest::Reported;
 use tightest::Tight;
 
 // How many lists there are; how many were refused, how many have a slack below zero, how many a slack of zero; for how many the planner says
-// overload; and a digest of all answers.
+// overload; and a digest of all answers. The sums are modulo 2^64, which none here comes near.
 pub struct Tally {
     pub lists: u64,
     pub refused: u64,
@@ -31,13 +30,6 @@ pub fn nothing() -> Tally {
         overloaded: 0,
         sum: 0,
     }
-}
-
-// The sum modulo 2^64, which none here comes near.
-fn plus(x: u64, y: u64) -> u64
-    ensures { λ r. ⌜ r ≡ (x + y) % 2 ^ 64 ⌝ }
-{
-    std::num::wrapping_add_u64(x, y)
 }
 
 // The digest with an interval and its slack, whose sign goes before its absolute value.

@@ -133,7 +133,7 @@ module _ (J : Jobs) where
             spans = record {
               released = (i, l, refl);
               due = (j, m, refl);
-              ahead = ltb-true (release J i) (deadline J j) (and-true (ltb (release J i) (deadline J j)) _ e .0);
+              ahead = omega (arith, ltb-true (release J i) (deadline J j) (and-true (ltb (release J i) (deadline J j)) _ e .0));
             };
             slack-is = refl;
           }
@@ -201,7 +201,7 @@ module _ (J : Jobs) where
   tightest-found p some =
       best-tightest (tryEnds J first (count J))
       (ends-gauged first (count J) (omega arith)
-      (record { spans = record { released = (0, some, refl); due = (0, some, refl); ahead = p .good 0 some .span }; slack-is = refl }))
+      (record { spans = record { released = (0, some, refl); due = (0, some, refl); ahead = omega (arith, p .good 0 some .span) }; slack-is = refl }))
       (λ a b s. tried a b s (s .released) (s .due))
     where
       first : Tight

@@ -30,20 +30,20 @@ below-requires c κs = search needs
 deadline-requires : tie.Need-deadline-requires Inv-loop μ-loop
 deadline-requires c κs = search needs
 
-put-requires : tie.Need-put-requires Inv-loop μ-loop
-put-requires c κs = search needs
+put-entry-requires : tie.Need-put-entry-requires Inv-loop μ-loop
+put-entry-requires c κs = search needs
 
 release-requires : tie.Need-release-requires Inv-loop μ-loop
 release-requires c κs = search needs
 
-put-requires-2 : tie.Need-put-requires-2 Inv-loop μ-loop
-put-requires-2 c κs = search needs
+put-entry-requires-2 : tie.Need-put-entry-requires-2 Inv-loop μ-loop
+put-entry-requires-2 c κs = search needs
 
 volume-requires : tie.Need-volume-requires Inv-loop μ-loop
 volume-requires c κs = search needs
 
-put-requires-3 : tie.Need-put-requires-3 Inv-loop μ-loop
-put-requires-3 c κs = search needs
+put-entry-requires-3 : tie.Need-put-entry-requires-3 Inv-loop μ-loop
+put-entry-requires-3 c κs = search needs
 
 add-j : tie.Need-add-j Inv-loop μ-loop
 add-j c = search needs
@@ -78,11 +78,11 @@ jobs-spec =
     next-requires-3
     below-requires
     deadline-requires
-    put-requires
+    put-entry-requires
     release-requires
-    put-requires-2
+    put-entry-requires-2
     volume-requires
-    put-requires-3
+    put-entry-requires-3
     add-j
     loop-less
     loop-again

@@ -1,9 +1,9 @@
--- `chance::below` yields a rest, which is below its divisor.
+-- `below` yields a rest, which is below its divisor.
 use mathlib.Core.Path.{refl}
 use native.Mathlib.Nat.{mod-lt}
 use borrow.Author.Needs.{needs}
-use Rattle.test_tightest.proofs.chance.below.Statement.{statement}
-use Rattle.test_tightest.proofs.chance.below.Tie as tie
+use Rattle.test_bytes.proofs.below.Statement.{statement}
+use Rattle.test_bytes.proofs.below.Tie as tie
 
 rem-result : tie.Need-rem-result
 rem-result c = search needs
