@@ -1,5 +1,5 @@
 -- 01, "Words of the plan", second paragraph: when a list passes the list checks; and "Refused, and where" with 02's card 1: the order in
--- which planner, judge and list writer find a fault, 12 for H, 19, 12 for the count, then 25, 15 or 26 for the lowest faulty job. The checks
+-- which planner, judge, list writer and the search for the tightest interval find a fault, 12 for H, 19, 12 for the count, then 25, 15 or 26 for the lowest faulty job. The checks
 -- of H, of a length and of a table's bytes stand by themselves, because others make them too.
 use Prim.Native.Nat.{ℕ, zero, suc, _≤_, _<_}
 use mathlib.Core.Path.{_≡_}
@@ -113,7 +113,7 @@ listCheckBy check h rs ds ps = andThen (horizonCheck h) (listsCheck check h rs d
 abbrev pub listCheck : ℕ → List ℕ → List ℕ → List ℕ → Checked
 listCheck = listCheckBy jobCheck
 
--- the same of a list, as planner, judge and list writer are lent it
+-- the same of a list, as planner, judge and others are lent it
 abbrev pub checkOf : Jobs → Checked
 checkOf J = listCheck (J .horizon) (J .releases) (J .deadlines) (J .volumes)
 

@@ -263,7 +263,7 @@ fn check_lists(h: u16, releases: &[u16], deadlines: &[u16], volumes: &[u16]) -> 
     }
 }
 
-// The list checks, in the order in which planner, judge and list writer make them.
+// The list checks, in the order in which planner, judge, list writer and the search for the tightest interval make them.
 pub fn check_list(h: u16, releases: &[u16], deadlines: &[u16], volumes: &[u16]) -> Checked
     ensures { λ c. ⌜ CheckPromise (listCheck h (now (releases .entry)) (now (deadlines .entry)) (now (volumes .entry))) c ⌝ }
 {

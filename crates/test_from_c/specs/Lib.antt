@@ -1,2 +1,2 @@
--- What the benchmark's call of the record reader gives.
+-- What the calls of the benchmark give.
 pub mod Call
