@@ -55,7 +55,7 @@ static int differs(void) {
 
 static double now(void) { struct timespec t; clock_gettime(CLOCK_MONOTONIC, &t); return (double)t.tv_sec * 1e9 + (double)t.tv_nsec; }
 
-/* Nanoseconds a call, the least of so far, which is 0 at first, and one more measurement. */
+/* Nanoseconds a call: the lesser of the best so far, 0 if there is none yet, and one more measurement. */
 static double least(double so_far, find *f, int n, int kinds) {
   int calls = n == 1 ? 40 * LISTS : n == 8 ? 8 * LISTS : LISTS;
   double start = now();

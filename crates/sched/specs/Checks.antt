@@ -1,6 +1,6 @@
 -- 01, "Words of the plan", second paragraph: when a list passes the list checks; and "Refused, and where" with 02's card 1: the order in
--- which planner, judge, list writer and the search for the tightest interval find a fault, 12 for H, 19, 12 for the count, then 25, 15 or 26 for the lowest faulty job. The checks
--- of H, of a length and of a table's bytes stand by themselves, because others make them too.
+-- which planner, judge, list writer and the search for the tightest interval find a fault, 12 for H, 19, 12 for the count, then 25, 15 or 26 for
+-- the lowest faulty job. The checks of H, of a length and of a table's bytes stand by themselves, because others make them too.
 use Prim.Native.Nat.{ℕ, zero, suc, _≤_, _<_}
 use mathlib.Core.Path.{_≡_}
 use mathlib.Core.Bool.{Bool, true, false, not, _&&_}

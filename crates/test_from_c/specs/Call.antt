@@ -7,8 +7,8 @@ use lib.ListN.{length}
 use lib.IntN.{ℤ, pos}
 use Rattle.record.specs.Record.{outAfter}
 use Rattle.record.specs.Reading.{readCheck, tableIn, readAnswer, readNumber}
-use Rattle.tightest.specs.declared.Reported.{Reported}
-use Rattle.tightest.specs.declared.Reported.the-variants.{Found, Refused}
+use Rattle.tightest.specs.declared.Tightness.{Tightness}
+use Rattle.tightest.specs.declared.Tightness.the-variants.{Found, Refused}
 
 pub record ReadsFromC (bytes lent : List ℕ) (answer : ℕ) (after : List ℕ) : Type 0 where
   pub number : answer ≡ readNumber (readAnswer bytes (readCheck bytes (length lent)))
@@ -21,15 +21,15 @@ endsIn a b (x ∷ []) = x ∷ []
 endsIn a b (x ∷ y ∷ rest) = a ∷ b ∷ rest
 
 -- the slack; for a refusal a number that no slack has
-abbrev pub foundValue : Reported → ℤ
-foundValue (Found x) = x .slack
-foundValue (Refused r) = pos 65536
+abbrev pub tightestValue : Tightness → ℤ
+tightestValue (Found x) = x .slack
+tightestValue (Refused r) = pos 65536
 
 -- a refusal leaves the ends as they were
-abbrev pub foundEnds : Reported → List ℕ → List ℕ
-foundEnds (Found x) lent = endsIn (x .a) (x .b) lent
-foundEnds (Refused r) lent = lent
+abbrev pub tightestEnds : Tightness → List ℕ → List ℕ
+tightestEnds (Found x) lent = endsIn (x .a) (x .b) lent
+tightestEnds (Refused r) lent = lent
 
-pub record FindsFromC (answer : Reported) (lent : List ℕ) (value : ℤ) (after : List ℕ) : Type 0 where
-  pub given : value ≡ foundValue answer
-  pub ends : after ≡ foundEnds answer lent
+pub record TightestFromC (answer : Tightness) (lent : List ℕ) (value : ℤ) (after : List ℕ) : Type 0 where
+  pub given : value ≡ tightestValue answer
+  pub ends : after ≡ tightestEnds answer lent

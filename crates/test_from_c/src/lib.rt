@@ -3,10 +3,10 @@
 ghost use Prim.Native.Nat.{ℕ};
 ghost use mathlib.Core.Bool.{Bool};
 ghost use Rattle.sched.specs.Jobs.{jobsFrom};
-ghost use Rattle.tightest.specs.Answer.{reported};
-ghost use Rattle.test_from_c.specs.Call.{ReadsFromC, FindsFromC};
+ghost use Rattle.tightest.specs.Answer.{tightness};
+ghost use Rattle.test_from_c.specs.Call.{ReadsFromC, TightestFromC};
 use record::RecordRead;
-use tightest::Reported;
+use tightest::Tightness;
 
 // 0, or the number of the refusal.
 #[no_mangle]
@@ -29,10 +29,10 @@ pub extern "C" fn find_tightest(
     volumes: &[u16],
     ends: &mut [u64],
 ) -> i32
-    ensures { λ r. ⌜ ((q : ℕ) (start : Bool) → FindsFromC (reported (jobsFrom h q start (now (releases .entry)) (now (deadlines .entry)) (now (volumes .entry)))) (now (ends .entry)) r (now (ends .exit))) ⌝ }
+    ensures { λ r. ⌜ ((q : ℕ) (start : Bool) → TightestFromC (tightness (jobsFrom h q start (now (releases .entry)) (now (deadlines .entry)) (now (volumes .entry)))) (now (ends .entry)) r (now (ends .exit))) ⌝ }
 {
     match tightest::find(h, releases, deadlines, volumes) {
-        Reported::Found(x) => {
+        Tightness::Found(x) => {
             if ends.len() < 2 {
                 return x.slack;
             }
@@ -40,6 +40,6 @@ pub extern "C" fn find_tightest(
             ends[1] = x.b as u64;
             x.slack
         },
-        Reported::Refused(_) => 65536,
+        Tightness::Refused(_) => 65536,
     }
 }

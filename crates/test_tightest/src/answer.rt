@@ -5,7 +5,7 @@ ghost use lib.Signed.{ltZ};
 use libc::STDOUT_FILENO;
 use test_bytes::number;
 use test_bytes::text;
-use tightest::Reported;
+use tightest::Tightness;
 
 pub fn negative(x: i32) -> bool
     ensures { λ r. ⌜ r ≡ ltZ x (pos 0) ⌝ }
@@ -37,13 +37,13 @@ fn signed(x: i32) {
 // Prints the answer to a list, and ends the line.
 pub fn show(h: u16, releases: &[u16], deadlines: &[u16], volumes: &[u16]) {
     match tightest::find(h, releases, deadlines, volumes) {
-        Reported::Found(t) => {
+        Tightness::Found(t) => {
             text(b" found");
             signed(t.slack);
             number(t.a as u64);
             number(t.b as u64);
         }
-        Reported::Refused(r) => {
+        Tightness::Refused(r) => {
             text(b" refused");
             number(r.number() as u64);
             number(r.place() as u64);

@@ -4,7 +4,7 @@
 mod answer; // answer.rt: one answer, and signed numbers
 mod tally; // tally.rt: the answers to many lists
 mod worked; // worked.rt: single lists
-mod refusals; // refusals.rt: single lists that are refused, but one
+mod refusals; // refusals.rt: single lists, all but one refused
 mod short; // short.rt: every short list
 mod chance; // chance.rt: lists by chance
 

@@ -1,4 +1,4 @@
-// Every list of up to three jobs in up to four slots, refused ones among them.
+// Every list of up to three jobs in up to four slots, with releases up to h, deadlines up to h + 1 and volumes up to 3: most are refused.
 ghost use mathlib.Core.Path.{_≡_};
 ghost use Prim.Native.Nat.{_+_, _/_, _%_, _<_, _≤_};
 use super::tally;
@@ -29,7 +29,7 @@ fn volume(h: u32, c: u32) -> u16
     (c / (h + 1) / (h + 2) % 4) as u16
 }
 
-// The lists of one kind: so many slots, so many jobs, and so many of which each can be any.
+// The lists of one kind: slots, jobs, and how many different jobs there are.
 struct Kind {
     h: u32,
     n: u32,

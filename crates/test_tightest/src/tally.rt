@@ -6,11 +6,11 @@ use sched::Refusal;
 use test_bytes::mixed;
 use test_bytes::number;
 use test_bytes::plus;
-use tightest::Reported;
 use tightest::Tight;
+use tightest::Tightness;
 
 // How many lists there are; how many were refused, how many have a slack below zero, how many a slack of zero; for how many the planner says
-// overload; and a digest of all answers. The sums are modulo 2^64, which none here comes near.
+// overload; and a digest of all answers. Counts are modulo 2^64, which none here comes near.
 pub struct Tally {
     pub lists: u64,
     pub refused: u64,
@@ -86,8 +86,8 @@ pub fn gauge(last: Tally, h: u16, releases: &[u16], deadlines: &[u16], volumes: 
     with.lists = plus(last.lists, 1);
     with.overloaded = plus(last.overloaded, overload(h, releases, deadlines, volumes));
     match tightest::find(h, releases, deadlines, volumes) {
-        Reported::Found(t) => found(with, t),
-        Reported::Refused(r) => refused(with, r),
+        Tightness::Found(t) => found(with, t),
+        Tightness::Refused(r) => refused(with, r),
     }
 }
 

@@ -4,4 +4,4 @@ pub mod Walk
 pub mod Walking
 pub mod Choosing
 pub mod EndByEnd
-pub mod Reporting
+pub mod Answering

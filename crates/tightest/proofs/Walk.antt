@@ -16,7 +16,7 @@ use Rattle.sched.specs.Overload.{volumeIf, volumeInside}
 use Rattle.laws_edf.specs.Orders.{Sorted, jobAt}
 use Rattle.laws_edf.specs.Overload.Ends.{volume-inside, volume-early, volume-late}
 use Rattle.tightest.specs.Signed.{until-same, until-at-most, until-less}
-use Rattle.tightest.specs.Slack.{slackOf, Spans}
+use Rattle.tightest.specs.Slack.{slackOf, ReleaseToDeadline}
 use Rattle.tightest.specs.Search.{Visits, TightestTo}
 
 module _ (J : Jobs) (order : List ℕ) (b : ℕ) where
@@ -29,13 +29,13 @@ module _ (J : Jobs) (order : List ℕ) (b : ℕ) where
   reach a = a + volumeInside J a b
 
   -- the jobs from place `at` on are visited: `sum` is the volume of those due by b, and no release of which no job is still to come reaches further than
-  -- `until`, or as far from behind a
-  pub record Walked (at sum a until : ℕ) : Type 0 where
+  -- `until`, nor just as far if it lies behind a
+  pub record WalkedTo (at sum a until : ℕ) : Type 0 where
     pub within : at ≤ count J
     pub inside : (x : ℕ) → ((k : ℕ) → at ≤ k → k < count J → x ≤ releaseAt k) → volumeInside J x b ≡ sum + sumBelow at (λ k. volumeIf J x b (jobAt order k))
     pub sooner : (k : ℕ) → k < at → releaseAt k ≤ a
     pub less-far : (k : ℕ) → k < at → releaseAt k + sum ≤ until
-    pub spans : Spans J a b
+    pub spans : ReleaseToDeadline J a b
     pub fair : until ≤ reach a
     pub furthest : (k : ℕ) → at ≤ k → k < count J → releaseAt k < b → ((i : ℕ) → i < at → releaseAt i < releaseAt k) →
         (reach (releaseAt k) ≤ until) × (reach (releaseAt k) ≡ until → releaseAt k ≤ a)
@@ -63,7 +63,7 @@ module _ (J : Jobs) (p : Passes J) (order : List ℕ) (s : Sorted (count J) (rel
 
   -- the first n jobs are released before b, the others not, and so are not due by b
   pub walk-start : (n : ℕ) → 0 < n → n ≤ count J → releaseAt J order b (n - 1) < b → ((k : ℕ) → n ≤ k → k < count J → b ≤ releaseAt J order b k) →
-      Walked J order b n 0 (releaseAt J order b (n - 1)) (releaseAt J order b (n - 1))
+      WalkedTo J order b n 0 (releaseAt J order b (n - 1)) (releaseAt J order b (n - 1))
   unfolding volumeInside
   walk-start n some within last rest =
       record {
@@ -80,7 +80,7 @@ module _ (J : Jobs) (p : Passes J) (order : List ℕ) (s : Sorted (count J) (rel
       late x k m o = volume-late J x b (jobAt order k) (omega (arith, rest k m o, p .good (jobAt order k) (s .known k o) .span))
 
   -- one job more, which adds the same to the volume inside from its release or any before it
-  module _ (m sum a until : ℕ) (w : Walked J order b (suc m) sum a until)
+  module _ (m sum a until : ℕ) (w : WalkedTo J order b (suc m) sum a until)
       (due : ℕ) (adds : (x : ℕ) → x ≤ releaseAt J order b m → volumeIf J x b (jobAt order m) ≡ due) where
     abbrev r : ℕ
     r = releaseAt J order b m
@@ -137,7 +137,7 @@ module _ (J : Jobs) (p : Passes J) (order : List ℕ) (s : Sorted (count J) (rel
             let (far, ties) = w .furthest k later n o before in
             (omega arith, λ e. omega (arith, ties (omega arith), keeps (omega arith)))
 
-    pub walk-further : until < r + (sum + due) → Walked J order b m (sum + due) r (r + (sum + due))
+    pub walk-further : until < r + (sum + due) → WalkedTo J order b m (sum + due) r (r + (sum + due))
     walk-further l =
         record {
           within = omega (arith, w .within);
@@ -150,7 +150,7 @@ module _ (J : Jobs) (p : Passes J) (order : List ℕ) (s : Sorted (count J) (rel
               (λ earlier. (omega (arith, reaches-just earlier), λ e. omega arith));
         }
 
-    pub walk-kept : r + (sum + due) ≤ until → Walked J order b m (sum + due) a until
+    pub walk-kept : r + (sum + due) ≤ until → WalkedTo J order b m (sum + due) a until
     walk-kept l =
         record {
           within = omega (arith, w .within);
@@ -163,20 +163,20 @@ module _ (J : Jobs) (p : Passes J) (order : List ℕ) (s : Sorted (count J) (rel
               (λ earlier. (omega (arith, reaches-just earlier), λ e. w .sooner m (omega arith)));
         }
 
-  pub walk-visit : (m sum a until sum′ a′ until′ : ℕ) → Walked J order b (suc m) sum a until →
-      Visits b (releaseAt J order b m) (deadline J (jobAt order m)) (volume J (jobAt order m)) sum a until sum′ a′ until′ → Walked J order b m sum′ a′ until′
+  pub walk-visit : (m sum a until sum′ a′ until′ : ℕ) → WalkedTo J order b (suc m) sum a until →
+      Visits b (releaseAt J order b m) (deadline J (jobAt order m)) (volume J (jobAt order m)) sum a until sum′ a′ until′ → WalkedTo J order b m sum′ a′ until′
   walk-visit m sum a until sum′ a′ until′ w v = go (decLe (deadline J (jobAt order m)) b)
     where
-      to : {x y z : ℕ} → sum′ ≡ x → a′ ≡ y → until′ ≡ z → Walked J order b m x y z → Walked J order b m sum′ a′ until′
+      to : {x y z : ℕ} → sum′ ≡ x → a′ ≡ y → until′ ≡ z → WalkedTo J order b m x y z → WalkedTo J order b m sum′ a′ until′
       to e f g w′ = rw (e, f, g) w′
 
-      go : Dec (deadline J (jobAt order m) ≤ b) → Walked J order b m sum′ a′ until′
+      go : Dec (deadline J (jobAt order m) ≤ b) → WalkedTo J order b m sum′ a′ until′
       go (yes l) = by-reach (decLt until (releaseAt J order b m + (sum + volume J (jobAt order m))))
         where
           adds : (x : ℕ) → x ≤ releaseAt J order b m → volumeIf J x b (jobAt order m) ≡ volume J (jobAt order m)
           adds x n = volume-inside J x b (jobAt order m) n l
 
-          by-reach : Dec (until < releaseAt J order b m + (sum + volume J (jobAt order m))) → Walked J order b m sum′ a′ until′
+          by-reach : Dec (until < releaseAt J order b m + (sum + volume J (jobAt order m))) → WalkedTo J order b m sum′ a′ until′
           by-reach (yes h) =
               let (start, far) = v .further l h in
               to (v .sum-is l) start far (walk-further m sum a until w (volume J (jobAt order m)) adds h)
@@ -191,7 +191,7 @@ module _ (J : Jobs) (p : Passes J) (order : List ℕ) (s : Sorted (count J) (rel
           zero-more : (n : ℕ) → n + 0 ≡ n
           zero-more n = omega arith
 
-  pub walk-end : (sum a until : ℕ) → Walked J order b 0 sum a until → TightestTo J b (record { slack = pos b -ℤ pos until; a = a; b = b })
+  pub walk-end : (sum a until : ℕ) → WalkedTo J order b 0 sum a until → TightestTo J b (record { slack = pos b -ℤ pos until; a = a; b = b })
   unfolding slackOf
   walk-end sum a until w =
       record {
@@ -206,7 +206,7 @@ module _ (J : Jobs) (p : Passes J) (order : List ℕ) (s : Sorted (count J) (rel
             };
       }
     where
-      each : (x : ℕ) → Spans J x b → (reach J order b x ≤ until) × (reach J order b x ≡ until → x ≤ a)
+      each : (x : ℕ) → ReleaseToDeadline J x b → (reach J order b x ≤ until) × (reach J order b x ≡ until → x ≤ a)
       each x spans =
           let (i, l, e) = spans .released in
           let (k, n, f) = s .all i l in

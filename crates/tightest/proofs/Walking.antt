@@ -14,7 +14,7 @@ use Rattle.orders.specs.Rising.Members.{rising-sorted}
 use Rattle.orders.specs.Views.Falling.{places-sum}
 use Rattle.orders.specs.Lists.{ListsOf, release-is, deadline-is, volume-is}
 use Rattle.tightest.specs.Search.{Listed, Arranged, EndsAt, Startable, CountsBefore, Visits, TightestTo}
-use Rattle.tightest.proofs.Walk.{Walked, walk-start, walk-visit, walk-end}
+use Rattle.tightest.proofs.Walk.{WalkedTo, walk-start, walk-visit, walk-end}
 
 pub listed-few : {releases deadlines volumes : List ℕ} → Listed releases deadlines volumes → length releases ≤ 64
 listed-few l = let p = l .lists in omega (arith, p .passes .few, ap length (p .releases-are))
@@ -76,7 +76,7 @@ pub record Walking (releases deadlines volumes order : List ℕ) (b at sum a unt
   pub within : at ≤ length order
   pub small : sum ≤ 65535 * (length order - at)
   pub near : until ≤ 4096 + sum
-  pub walked : (J : Jobs) → ListsOf J releases deadlines volumes → Walked J order b at sum a until
+  pub walked : (J : Jobs) → ListsOf J releases deadlines volumes → WalkedTo J order b at sum a until
 
 -- a release is at most 4,096
 low : {releases deadlines volumes order : List ℕ} → Arranged releases deadlines volumes order → (k : ℕ) → k < length order → getD releases (getD order k 0) 0 ≤ 4096
@@ -98,7 +98,7 @@ walking-start {releases = releases} {deadlines = deadlines} {volumes = volumes} 
       walked = λ J p.
           let s : (k : ℕ) → release J (jobAt order k) ≡ getD releases (getD order k 0) 0 = λ k. release-is p (jobAt order k) in
           let first = s (n - 1) ∙ sym e in
-          subst (λ (x : ℕ). Walked J order b n 0 x x) first
+          subst (λ (x : ℕ). WalkedTo J order b n 0 x x) first
           (walk-start J (p .passes) order (sorted a p) (sums a p) b (ending a p ends) n (c .some) (omega (arith, c .within, order-long a, few a p))
           (omega (arith, c .last, s (n - 1))) (λ k l m. omega (arith, c .rest k l (omega (arith, order-long a, few a p)), s k)));
     }
@@ -117,7 +117,7 @@ module _ {releases deadlines volumes order : List ℕ} {b at sum a until : ℕ} 
   walking-end l J p =
       let z : at ≡ 0 = omega arith in
       walk-end J (p .passes) order (sorted (w .arranged) p) (sums (w .arranged) p) b (ending (w .arranged) p (w .ends)) sum a until
-      (subst (λ (k : ℕ). Walked J order b k sum a until) z (w .walked J p))
+      (subst (λ (k : ℕ). WalkedTo J order b k sum a until) z (w .walked J p))
 
   module _ (more : 0 < at) where
     pub walking-place : at - 1 < length order
@@ -140,7 +140,7 @@ module _ {releases deadlines volumes order : List ℕ} {b at sum a until : ℕ} 
           walked = λ J p.
               let up : at ≡ suc (at - 1) = omega arith in
               walk-visit J (p .passes) order (sorted (w .arranged) p) (sums (w .arranged) p) b (ending (w .arranged) p (w .ends)) (at - 1) sum a until sum′ a′ until′
-              (subst (λ (k : ℕ). Walked J order b k sum a until) up (w .walked J p))
+              (subst (λ (k : ℕ). WalkedTo J order b k sum a until) up (w .walked J p))
               (rw (release-is p job, deadline-is p job, volume-is p job) v);
         }
       where

@@ -10,16 +10,16 @@ use Rattle.sched.specs.Jobs.{Jobs, count}
 use Rattle.orders.specs.Rising.{risingBy, keyOf}
 use Rattle.orders.specs.Lists.{ListsOf}
 use Rattle.tightest.specs.declared.Tight.{Tight}
-use Rattle.tightest.specs.Slack.{gauged, Spans}
+use Rattle.tightest.specs.Slack.{gauged, ReleaseToDeadline}
 use Rattle.tightest.specs.Slack.Laws.{Gauged, AsGood}
 
-abbrev pub pick : Bool → Tight → Tight → Tight
-pick true x y = x
-pick false x y = y
+abbrev pub chosen : Bool → Tight → Tight → Tight
+chosen true x y = x
+chosen false x y = y
 
--- which of the tightest intervals of two ends is reported
+-- which of the tightest intervals of two ends is tightness
 abbrev pub rather : Tight → Tight → Tight
-rather x y = pick (ltZ (y .slack) (x .slack)) y (pick (ltZ (x .slack) (y .slack)) x (pick (ltb (y .b) (x .b)) y x))
+rather x y = chosen (ltZ (y .slack) (x .slack)) y (chosen (ltZ (x .slack) (y .slack)) x (chosen (ltb (y .b) (x .b)) y x))
 
 -- the lists of a job list without a fault that has a job
 pub record Listed (releases deadlines volumes : List ℕ) : Type 0 where
@@ -40,7 +40,7 @@ EndsAt deadlines b = (j : ℕ) × (j < length deadlines) × (getD deadlines j 0 
 pub record TightestTo (J : Jobs) (b : ℕ) (x : Tight) : Type 0 where
   pub gauged-is : Gauged J x
   pub end-is : x .b ≡ b
-  pub best : (a : ℕ) → Spans J a b → AsGood x (gauged J a b)
+  pub best : (a : ℕ) → ReleaseToDeadline J a b → AsGood x (gauged J a b)
 
 -- a job is released before b
 pub record Startable (releases order : List ℕ) (b : ℕ) : Type 0 where

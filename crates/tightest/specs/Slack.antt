@@ -24,7 +24,7 @@ tighter x y =
     ltZ (x .slack) (y .slack)
     || (leZ (x .slack) (y .slack) && (ltb (x .b) (y .b) || (leb (x .b) (y .b) && ltb (y .a) (x .a))))
 
--- the best so far and, if a < b, the interval from a to b: which of them is reported
+-- the best so far and, if a < b, the interval from a to b: which of them is tightness
 unfoldable pub tryPair : Jobs → Tight → ℕ → ℕ → Tight
 tryPair J best a b = elim (ltb a b && tighter (gauged J a b) best) [ true ↦ gauged J a b | false ↦ best ]
 
@@ -45,7 +45,7 @@ tightestOf J = tryEnds J (gauged J (release J 0) (deadline J 0)) (count J)
 -- The same in words, for promises to name
 
 -- "from some job's release a to some job's deadline b with a < b"
-pub record Spans (J : Jobs) (a b : ℕ) : Type 0 where
+pub record ReleaseToDeadline (J : Jobs) (a b : ℕ) : Type 0 where
   pub released : (i : ℕ) × (i < count J) × (release J i ≡ a)
   pub due : (j : ℕ) × (j < count J) × (deadline J j ≡ b)
   pub ahead : a < b
@@ -53,8 +53,8 @@ pub record Spans (J : Jobs) (a b : ℕ) : Type 0 where
 -- x is such an interval with its slack, none has less, of those with as much none ends earlier, and of those with as much that end with it none
 -- begins later; not always the overloaded interval that is shown, which ends first
 pub record IsTightest (J : Jobs) (x : Tight) : Type 0 where
-  pub spans : Spans J (x .a) (x .b)
+  pub spans : ReleaseToDeadline J (x .a) (x .b)
   pub slack-is : x .slack ≡ slackOf J (x .a) (x .b)
-  pub least : (a b : ℕ) → Spans J a b → x .slack ≤ℤ slackOf J a b
-  pub least-end : (a b : ℕ) → Spans J a b → slackOf J a b ≡ x .slack → x .b ≤ b
-  pub greatest-start : (a : ℕ) → Spans J a (x .b) → slackOf J a (x .b) ≡ x .slack → a ≤ x .a
+  pub least : (a b : ℕ) → ReleaseToDeadline J a b → x .slack ≤ℤ slackOf J a b
+  pub least-end : (a b : ℕ) → ReleaseToDeadline J a b → slackOf J a b ≡ x .slack → x .b ≤ b
+  pub greatest-start : (a : ℕ) → ReleaseToDeadline J a (x .b) → slackOf J a (x .b) ≡ x .slack → a ≤ x .a

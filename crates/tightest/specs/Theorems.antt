@@ -3,6 +3,7 @@
 use Prim.Native.Nat.{ℕ, zero, suc, _+_, _≤_, _<_}
 use mathlib.Core.Path.{_≡_, refl, sym, ap, _∙_}
 use mathlib.Core.Bool.{true, false}
+use mathlib.Core.Logic.{_⊎_}
 use native.Mathlib.Omega.{arith}
 use borrow.Author.Tests.{eqb-true, eqb-false}
 use lib.Dec.{eqb}
@@ -10,16 +11,19 @@ use lib.Signed.{_≤ℤ_}
 use Rattle.sched.specs.Bounded.{anyBelow}
 use Rattle.sched.specs.Bounded.Laws.{by-bool, any-elim, any-none}
 use Rattle.sched.specs.Jobs.{Jobs, count, release, deadline}
-use Rattle.sched.specs.Checks.{Passes}
+use Rattle.sched.specs.Checks.{Passes, checkOf}
+use Rattle.sched.specs.declared.Refusal.{Refusal}
+use Rattle.sched.specs.declared.Refusal.the-variants.{NoJobs}
+use Rattle.sched.specs.declared.Checked.the-variants.{Refused as Faulty}
 use Rattle.sched.specs.Overload.{volumeInside}
 use Rattle.laws_edf.specs.Overload.Ends.{end-unused, start-unused}
 use Rattle.tightest.specs.declared.Tight.{Tight}
-use Rattle.tightest.specs.declared.Reported.{Reported}
-use Rattle.tightest.specs.declared.Reported.the-variants.{Found}
+use Rattle.tightest.specs.declared.Tightness.{Tightness}
+use Rattle.tightest.specs.declared.Tightness.the-variants.{Found, Refused}
 use Rattle.tightest.specs.Signed.{slack-at-most, at-most-trans}
-use Rattle.tightest.specs.Slack.{slackOf, Spans, IsTightest, tightestOf}
-use Rattle.tightest.specs.Answer.{ReportPromise}
-use Rattle.tightest.specs.Answer.Laws.{found-if, found-checked}
+use Rattle.tightest.specs.Slack.{slackOf, ReleaseToDeadline, IsTightest, tightestOf}
+use Rattle.tightest.specs.Answer.{TightnessPromise}
+use Rattle.tightest.specs.Answer.Laws.{found-if, found-checked, list-refused, refused-only}
 pub mod Overload
 
 -- a job lies inside
@@ -58,8 +62,8 @@ module _ (J : Jobs) (p : Passes J) where
           let (j, l, m, same, held) = cut (record { job = h .job; known = h .known; from = h .from; to = omega (arith, h .to, not-last) }) in
           (j, l, omega arith, same ∙ sym (end-unused J a b n), held)
 
-  -- h slots on at most
-  to-release : (h a b : ℕ) → b ≤ a + h → Holds J a b → CutStart J a b
+  -- within k slots from a
+  to-release : (k a b : ℕ) → b ≤ a + k → Holds J a b → CutStart J a b
   to-release zero a b m h = absurd (omega (arith, h .from, h .to, p .good (h .job) (h .known) .span))
   to-release (suc k) a b m h =
       by-bool (anyBelow (count J) (λ i. eqb (release J i) a)) here (λ n. later (any-none (count J) _ n) (to-release k (suc a) b (omega arith)))
@@ -76,21 +80,21 @@ module _ (J : Jobs) (p : Passes J) where
           let (i, l, o, same, held) = cut (record { job = h .job; known = h .known; from = omega (arith, h .from, not-first); to = h .to }) in
           (i, l, omega arith, same ∙ sym (start-unused J a b n), held)
 
-  -- "every interval at all, 0 ≤ a < b ≤ H, that holds a job has at least that slack"; whatever a and b are
+  -- every interval that holds a job has at least the slack of the tightest, whatever a and b are
   holding-at-least : (x : Tight) → IsTightest J x → (a b : ℕ) → Holds J a b → x .slack ≤ℤ slackOf J a b
   unfolding slackOf
   holding-at-least x t a b h =
       let (j, m, sooner, same-end, held) = to-deadline a b h in
       let (i, l, later, same-start, inner) = to-release (deadline J j) a (deadline J j) (omega arith) held in
       let good = p .good (inner .job) (inner .known) .span in
-      let spans : Spans J (release J i) (deadline J j) =
+      let spans : ReleaseToDeadline J (release J i) (deadline J j) =
       record { released = (i, l, refl); due = (j, m, refl); ahead = omega (arith, inner .from, inner .to, good) } in
       at-most-trans (t .least (release J i) (deadline J j) spans)
       (slack-at-most (release J i) (deadline J j) (volumeInside J (release J i) (deadline J j)) a b (volumeInside J a b) (omega (arith, same-end, same-start)))
 
--- Of what `find` reports
+-- Of what `find` answers
 
-module _ (J : Jobs) (answer : Reported) (promise : ReportPromise J answer) where
+module _ (J : Jobs) (answer : Tightness) (promise : TightnessPromise J answer) where
   -- an interval is reported exactly of the lists that pass the list checks and have a job
 
   pub reports-if : Passes J → 0 < count J → (x : Tight) × (answer ≡ Found x)
@@ -99,9 +103,17 @@ module _ (J : Jobs) (answer : Reported) (promise : ReportPromise J answer) where
   pub reports-only : (x : Tight) → answer ≡ Found x → Passes J × (0 < count J)
   reports-only x e = found-checked J x (sym (promise .same) ∙ e)
 
+  -- a fault of the list is told as the list checks tell it, and nothing else is refused but a list without jobs
+
+  pub refuses-if : (r : Refusal) → checkOf J ≡ Faulty r → answer ≡ Refused r
+  refuses-if r e = promise .same ∙ sym (list-refused J r e .same)
+
+  pub refuses-only : (r : Refusal) → answer ≡ Refused r → (checkOf J ≡ Faulty r) ⊎ (Passes J × (count J ≡ 0) × (r ≡ NoJobs 0))
+  refuses-only r e = refused-only J r (sym (promise .same) ∙ e)
+
   -- no interval from a release to a deadline has less slack, and no interval that holds a job
   module _ (x : Tight) (e : answer ≡ Found x) where
-    pub never-undercut : (a b : ℕ) → Spans J a b → x .slack ≤ℤ slackOf J a b
+    pub never-undercut : (a b : ℕ) → ReleaseToDeadline J a b → x .slack ≤ℤ slackOf J a b
     never-undercut a b s = promise .tightest x e .least a b s
 
     pub held-at-least : (a b : ℕ) → Holds J a b → x .slack ≤ℤ slackOf J a b

@@ -1,5 +1,5 @@
 // Card 7: how close a list is to overload. For each job's deadline the releases before it are visited from the last to the first, while the volumes of
-// the jobs due by then add up: with n jobs, n times n steps.
+// the jobs due by then add up: with n jobs, at most n times n steps.
 ghost use mathlib.Core.Path.{_≡_};
 ghost use mathlib.Core.Bool.{Bool};
 ghost use Prim.Native.Nat.{ℕ, _≤_, _<_};
@@ -9,7 +9,7 @@ ghost use Rattle.sched.specs.Jobs.{Jobs, jobsFrom};
 ghost use Rattle.sched.specs.Checks.{CheckPromise};
 ghost use Rattle.orders.specs.Lists.{ListsOf};
 ghost use Rattle.tightest.specs.Slack.{IsTightest};
-ghost use Rattle.tightest.specs.Answer.{noJobsCheck, ReportPromise};
+ghost use Rattle.tightest.specs.Answer.{noJobsCheck, TightnessPromise};
 ghost use Rattle.tightest.specs.Search.{Listed, Arranged, EndsAt, TightestTo, Startable, CountsBefore, Visits, rather};
 use sched::Checked;
 use sched::Refusal;
@@ -21,7 +21,7 @@ pub struct Tight {
     pub b: usize,
 }
 
-pub enum Reported {
+pub enum Tightness {
     Found(Tight),
     Refused(Refusal),
 }
@@ -89,7 +89,7 @@ fn visit(far: Reach, b: u16, release: u16, deadline: u16, volume: u16) -> Reach
     }
 }
 
-// The slack up to b where work reaches so far.
+// The slack of the interval that ends at b, from how far its work reaches.
 fn slack_of(b: u16, until: usize) -> i32
     requires { ⌜ until < 2147483648 ⌝ }
     ensures { λ r. ⌜ r ≡ pos b -ℤ pos until ⌝ }
@@ -97,8 +97,8 @@ fn slack_of(b: u16, until: usize) -> i32
     b as i32 - until as i32
 }
 
-// The tightest interval that ends at b, a job's deadline; `order` has the jobs by release. A release of several jobs is tried once for each of them, and
-// only the last time with all their volumes: before that it reaches less far.
+// The tightest interval that ends at b, a job's deadline; `order` has the jobs by release. A release of several jobs is tried once for each that is due by b,
+// and only the last time with all their volumes: before that it reaches less far.
 fn ending_at(b: u16, releases: &[u16], deadlines: &[u16], volumes: &[u16], order: &[u8]) -> Tight
     requires { ⌜ Arranged (now releases) (now deadlines) (now volumes) (now order) × EndsAt (now deadlines) b ⌝ }
     ensures { λ r. ⌜ ((J : Jobs) → ListsOf J (now (releases .entry)) (now (deadlines .entry)) (now (volumes .entry)) → TightestTo J b r) ⌝ }
@@ -171,14 +171,14 @@ fn search(releases: &[u16], deadlines: &[u16], volumes: &[u16]) -> Tight
 
 // The least slack of an interval from a job's release to a job's deadline, with that interval; on equal slack the one that ends first, then the one that
 // begins last.
-pub fn find(h: u16, releases: &[u16], deadlines: &[u16], volumes: &[u16]) -> Reported
-    ensures { λ r. ⌜ ((q : ℕ) (start : Bool) → ReportPromise (jobsFrom h q start (now (releases .entry)) (now (deadlines .entry)) (now (volumes .entry))) r) ⌝ }
+pub fn find(h: u16, releases: &[u16], deadlines: &[u16], volumes: &[u16]) -> Tightness
+    ensures { λ r. ⌜ ((q : ℕ) (start : Bool) → TightnessPromise (jobsFrom h q start (now (releases .entry)) (now (deadlines .entry)) (now (volumes .entry))) r) ⌝ }
 {
     match sched::check_list(h, releases, deadlines, volumes) {
         Checked::Passed => match check_some(releases.len()) {
-            Checked::Passed => Reported::Found(search(releases, deadlines, volumes)),
-            Checked::Refused(r) => Reported::Refused(r),
+            Checked::Passed => Tightness::Found(search(releases, deadlines, volumes)),
+            Checked::Refused(r) => Tightness::Refused(r),
         },
-        Checked::Refused(r) => Reported::Refused(r),
+        Checked::Refused(r) => Tightness::Refused(r),
     }
 }

@@ -11,10 +11,10 @@ use mir.ValLaws.{toZ-ofZ}
 use Rattle.sched.specs.Jobs.{Jobs}
 use Rattle.sched.specs.declared.Refusal.{Refusal}
 use Rattle.tightest.specs.declared.Tight.{Tight}
-use Rattle.tightest.specs.declared.Reported.{Reported}
-use Rattle.tightest.specs.declared.Reported.the-variants.{Found, Refused}
-use Rattle.tightest.specs.Answer.{reported, ReportPromise}
-use Rattle.test_from_c.specs.Call.{endsIn, FindsFromC}
+use Rattle.tightest.specs.declared.Tightness.{Tightness}
+use Rattle.tightest.specs.declared.Tightness.the-variants.{Found, Refused}
+use Rattle.tightest.specs.Answer.{tightness, TightnessPromise}
+use Rattle.test_from_c.specs.Call.{endsIn, TightestFromC}
 use borrow.Author.Needs.{needs}
 use Rattle.test_from_c.proofs.find_tightest.Statement.{statement}
 use Rattle.test_from_c.proofs.find_tightest.Tie as tie
@@ -30,12 +30,12 @@ module _ (a b : ℕ) where
   stored (x ∷ []) l = absurd (omega arith)
   stored (x ∷ y ∷ rest) l = refl
 
-module _ (J : Jobs) (answer : Reported) (promise : ReportPromise J answer) (lent : List ℕ) where
-  found : (x : Tight) → answer ≡ Found x → (z : ℤ) (after : List ℕ) → z ≡ x .slack → after ≡ endsIn (x .a) (x .b) lent → FindsFromC (reported J) lent z after
-  found x e z after given ends = subst (λ (r : Reported). FindsFromC r lent z after) (sym e ∙ promise .same) (record { given = given; ends = ends })
+module _ (J : Jobs) (answer : Tightness) (promise : TightnessPromise J answer) (lent : List ℕ) where
+  found : (x : Tight) → answer ≡ Found x → (z : ℤ) (after : List ℕ) → z ≡ x .slack → after ≡ endsIn (x .a) (x .b) lent → TightestFromC (tightness J) lent z after
+  found x e z after given ends = subst (λ (r : Tightness). TightestFromC r lent z after) (sym e ∙ promise .same) (record { given = given; ends = ends })
 
-  refused : (r : Refusal) → answer ≡ Refused r → FindsFromC (reported J) lent (pos 65536) lent
-  refused r e = subst (λ (r : Reported). FindsFromC r lent (pos 65536) lent) (sym e ∙ promise .same) (record { given = refl; ends = refl })
+  refused : (r : Refusal) → answer ≡ Refused r → TightestFromC (tightness J) lent (pos 65536) lent
+  refused r e = subst (λ (r : Tightness). TightestFromC r lent (pos 65536) lent) (sym e ∙ promise .same) (record { given = refl; ends = refl })
 
 -- from where the interval is known, back to the call, and to what was lent
 abbrev answered : tie.After-x → tie.After-find

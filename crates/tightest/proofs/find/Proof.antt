@@ -1,6 +1,6 @@
 -- `find` meets its contract: the list checks decide, then 34, then the search.
 use mathlib.Core.Path.{sym, _∙_}
-use Rattle.tightest.proofs.Reporting.{refuse-list, refuse-empty, searchable, report-found}
+use Rattle.tightest.proofs.Answering.{refuse-list, refuse-empty, searchable, report-found}
 use borrow.Author.Needs.{needs}
 use Rattle.tightest.proofs.find.Statement.{statement}
 use Rattle.tightest.proofs.find.Tie as tie

@@ -1,5 +1,4 @@
 -- `visit` meets its contract: each way through it is a case of `Visits`, and 65 volumes are far within a word.
-use native.Mathlib.Omega.{arith}
 use borrow.Author.Needs.{needs}
 use Rattle.tightest.proofs.visit.Statement.{statement}
 use Rattle.tightest.proofs.visit.Tie as tie

@@ -13,11 +13,11 @@ use Rattle.sched.specs.Jobs.{Jobs, count, release, deadline}
 use Rattle.sched.specs.Checks.{Passes}
 use Rattle.tightest.specs.declared.Tight.{Tight}
 use Rattle.tightest.specs.Signed.{less-is, less-not, at-most-is, at-most-not, less-at-most, at-most-trans, at-most-both}
-use Rattle.tightest.specs.Slack.{slackOf, gauged, tighter, tryPair, tryStarts, tryEnds, tightestOf, Spans, IsTightest}
+use Rattle.tightest.specs.Slack.{slackOf, gauged, tighter, tryPair, tryStarts, tryEnds, tightestOf, ReleaseToDeadline, IsTightest}
 
 -- x is an interval from a release to a deadline, with its slack
 pub record Gauged (J : Jobs) (x : Tight) : Type 0 where
-  pub spans : Spans J (x .a) (x .b)
+  pub spans : ReleaseToDeadline J (x .a) (x .b)
   pub slack-is : x .slack ≡ slackOf J (x .a) (x .b)
 
 -- y is not reported rather than x
@@ -186,7 +186,7 @@ module _ (J : Jobs) where
   ends-gauged best (suc k) l g = starts-gauged (tryEnds J best k) (count J) k (omega arith) (omega arith) (ends-gauged best k (omega arith) g)
 
   -- an interval that is as good as each is the tightest
-  pub best-tightest : (x : Tight) → Gauged J x → ((a b : ℕ) → Spans J a b → AsGood x (gauged J a b)) → IsTightest J x
+  pub best-tightest : (x : Tight) → Gauged J x → ((a b : ℕ) → ReleaseToDeadline J a b → AsGood x (gauged J a b)) → IsTightest J x
   best-tightest x g best =
       record {
         spans = g .spans;
@@ -207,7 +207,7 @@ module _ (J : Jobs) where
       first : Tight
       first = gauged J (release J 0) (deadline J 0)
 
-      tried : (a b : ℕ) → Spans J a b → (i : ℕ) × (i < count J) × (release J i ≡ a) → (j : ℕ) × (j < count J) × (deadline J j ≡ b) →
+      tried : (a b : ℕ) → ReleaseToDeadline J a b → (i : ℕ) × (i < count J) × (release J i ≡ a) → (j : ℕ) × (j < count J) × (deadline J j ≡ b) →
           AsGood (tryEnds J first (count J)) (gauged J a b)
       tried a b s (i, l, e) (j, m, f) = rw (← e) (rw (← f) (ends-good first (count J) .1 i j l m (omega (arith, s .ahead, e, f))))
 

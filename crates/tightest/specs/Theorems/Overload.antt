@@ -26,15 +26,15 @@ use Rattle.laws_edf.specs.Theorems.{shown-ends}
 use Rattle.laws_edf.specs.Overload.Laws.{some-shown, shown-some}
 use Rattle.planner.specs.Promises.{PlanPromise}
 use Rattle.tightest.specs.declared.Tight.{Tight}
-use Rattle.tightest.specs.declared.Reported.{Reported}
-use Rattle.tightest.specs.declared.Reported.the-variants.{Found}
+use Rattle.tightest.specs.declared.Tightness.{Tightness}
+use Rattle.tightest.specs.declared.Tightness.the-variants.{Found}
 use Rattle.tightest.specs.Signed.{at-most-less, negative-if, negative-only}
-use Rattle.tightest.specs.Slack.{slackOf, Spans, IsTightest, tightestOf}
-use Rattle.tightest.specs.Answer.{ReportPromise}
+use Rattle.tightest.specs.Slack.{slackOf, ReleaseToDeadline, IsTightest, tightestOf}
+use Rattle.tightest.specs.Answer.{TightnessPromise}
 use Rattle.tightest.specs.Answer.Laws.{found-checked, found-if}
 
--- an interval is reported, and its slack is below zero
-pub record BelowZero (report : Reported) : Type 0 where
+-- an interval is tightness, and its slack is below zero
+pub record BelowZero (report : Tightness) : Type 0 where
   pub interval : Tight
   pub found : report ≡ Found interval
   pub negative : interval .slack <ℤ pos 0
@@ -68,12 +68,12 @@ tightest-overfull J x p t n =
     let over = negative-only (x .a) (x .b) (volumeInside J (x .a) (x .b)) (subst (λ (z : _). z <ℤ pos 0) (t .slack-is) n) in
     record { span = t .spans .ahead; within = omega (arith, e, p .good j l .within); more = omega (arith, t .spans .ahead) }
 
-overfull-tightest : (J : Jobs) (x : Tight) → IsTightest J x → (a b : ℕ) → Spans J a b → Overfull J a b → x .slack <ℤ pos 0
+overfull-tightest : (J : Jobs) (x : Tight) → IsTightest J x → (a b : ℕ) → ReleaseToDeadline J a b → Overfull J a b → x .slack <ℤ pos 0
 unfolding slackOf
 overfull-tightest J x t a b s o = at-most-less (t .least a b s) (negative-if a b (volumeInside J a b) (omega (arith, o .span, o .more)))
 
 module _ (J : Jobs) (lent : List ℕ) (long : J .horizon ≤ length lent) (answer : Outcome) (n-is : outcomeNumber answer ≡ outcomeNumber ((plan J lent) .answer))
-    (report : Reported) (promise : ReportPromise J report) where
+    (report : Tightness) (promise : TightnessPromise J report) where
   overload-if : BelowZero report → outcomeNumber answer ≡ 18
   overload-if z =
       let p = found-checked J (z .interval) (sym (promise .same) ∙ z .found) .0 in
@@ -88,13 +88,13 @@ module _ (J : Jobs) (lent : List ℕ) (long : J .horizon ≤ length lent) (answe
       let (starts, ends) = shown-ends J i p e in
       let o = shown-some J i e .over in
       let f = promise .same ∙ found-if J p (omega (arith, starts .1)) in
-      let s : Spans J (i .a) (i .b) = record { released = starts; due = ends; ahead = o .span } in
+      let s : ReleaseToDeadline J (i .a) (i .b) = record { released = starts; due = ends; ahead = o .span } in
       record { interval = tightestOf J; found = f; negative = overfull-tightest J (tightestOf J) (promise .tightest (tightestOf J) f) (i .a) (i .b) s o }
 
 pub below-zero-iff-overload :
-    (h q : ℕ) (rs ds ps lent table : List ℕ) (answer : Outcome) (report : Reported) → h ≤ length lent →
+    (h q : ℕ) (rs ds ps lent table : List ℕ) (answer : Outcome) (report : Tightness) → h ≤ length lent →
     PlanPromise (jobsOf h q rs ds ps) lent answer table →
-    ((q : ℕ) (start : Bool) → ReportPromise (jobsFrom h q start rs ds ps) report) →
+    ((q : ℕ) (start : Bool) → TightnessPromise (jobsFrom h q start rs ds ps) report) →
     BelowZero report ↔ (outcomeNumber answer ≡ 18)
 below-zero-iff-overload h q rs ds ps lent table answer report long plans reports =
     let J = jobsOf h q rs ds ps in

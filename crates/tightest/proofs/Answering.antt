@@ -11,17 +11,17 @@ use Rattle.sched.specs.declared.Refusal.{Refusal}
 use Rattle.sched.specs.declared.Checked.the-variants.{Passed, Refused as Faulty}
 use Rattle.orders.specs.Lists.{ListsOf}
 use Rattle.tightest.specs.declared.Tight.{Tight}
-use Rattle.tightest.specs.declared.Reported.{Reported}
-use Rattle.tightest.specs.declared.Reported.the-variants.{Found, Refused}
+use Rattle.tightest.specs.declared.Tightness.{Tightness}
+use Rattle.tightest.specs.declared.Tightness.the-variants.{Found, Refused}
 use Rattle.tightest.specs.Slack.{IsTightest}
-use Rattle.tightest.specs.Answer.{noJobsCheck, ReportPromise}
+use Rattle.tightest.specs.Answer.{noJobsCheck, TightnessPromise}
 use Rattle.tightest.specs.Answer.Laws.{some-good, list-refused, jobs-refused, tightest-reported}
 use Rattle.tightest.specs.Search.{Listed}
 
 module _ (h : ℕ) (releases deadlines volumes : List ℕ) where
   -- the promise of `find`
-  abbrev Reports : Reported → Type 0
-  Reports r = (q : ℕ) (start : Bool) → ReportPromise (jobsFrom h q start releases deadlines volumes) r
+  abbrev Reports : Tightness → Type 0
+  Reports r = (q : ℕ) (start : Bool) → TightnessPromise (jobsFrom h q start releases deadlines volumes) r
 
   pub refuse-list : (r : Refusal) → listCheck h releases deadlines volumes ≡ Faulty r → Reports (Refused r)
   refuse-list r e q start = list-refused (jobsFrom h q start releases deadlines volumes) r e
