@@ -24,7 +24,7 @@ noJobsCheck n = refuseIf (eqb n 0) (NoJobs 0) Passed
 abbrev pub tightnessCheck : Jobs → Checked
 tightnessCheck J = andThen (checkOf J) (noJobsCheck (count J))
 
--- where no check fails, the tightest interval is tightness
+-- where no check fails, the tightest interval is told
 abbrev pub tells : Checked → Tight → Tightness
 tells Passed x = Found x
 tells (Faulty r) x = Refused r

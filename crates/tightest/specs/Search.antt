@@ -13,11 +13,12 @@ use Rattle.tightest.specs.declared.Tight.{Tight}
 use Rattle.tightest.specs.Slack.{gauged, ReleaseToDeadline}
 use Rattle.tightest.specs.Slack.Laws.{Gauged, AsGood}
 
+-- the first of two if the test holds, else the second
 abbrev pub chosen : Bool → Tight → Tight → Tight
 chosen true x y = x
 chosen false x y = y
 
--- which of the tightest intervals of two ends is tightness
+-- which of the tightest intervals of two ends is reported
 abbrev pub rather : Tight → Tight → Tight
 rather x y = chosen (ltZ (y .slack) (x .slack)) y (chosen (ltZ (x .slack) (y .slack)) x (chosen (ltb (y .b) (x .b)) y x))
 

@@ -24,7 +24,7 @@ tighter x y =
     ltZ (x .slack) (y .slack)
     || (leZ (x .slack) (y .slack) && (ltb (x .b) (y .b) || (leb (x .b) (y .b) && ltb (y .a) (x .a))))
 
--- the best so far and, if a < b, the interval from a to b: which of them is tightness
+-- the best so far and, if a < b, the interval from a to b: which of them is reported
 unfoldable pub tryPair : Jobs → Tight → ℕ → ℕ → Tight
 tryPair J best a b = elim (ltb a b && tighter (gauged J a b) best) [ true ↦ gauged J a b | false ↦ best ]
 

@@ -1,4 +1,4 @@
--- When an interval is tightness, and what each check leaves to say.
+-- When an interval is told, and what each check leaves to say.
 use Prim.Native.Nat.{ℕ, _<_}
 use mathlib.Core.Path.{_≡_, refl, sym, ap, subst, _∙_}
 use mathlib.Core.Bool.{Bool, true, false}

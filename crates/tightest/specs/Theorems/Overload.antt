@@ -33,7 +33,7 @@ use Rattle.tightest.specs.Slack.{slackOf, ReleaseToDeadline, IsTightest,
 use Rattle.tightest.specs.Answer.{TightnessPromise}
 use Rattle.tightest.specs.Answer.Laws.{found-checked, found-if}
 
--- an interval is tightness, and its slack is below zero
+-- an interval is told, and its slack is below zero
 pub record BelowZero (report : Tightness) : Type 0 where
   pub interval : Tight
   pub found : report ≡ Found interval
