@@ -1,11 +1,19 @@
-# `make run` shows the product at work on a worked list; `make test` passes all tests; `make tool` builds target/jobs, which turns job lists
-# as text into list bytes and pictures (docs/TOOL.md); `make dist` packs the part for buyers; `make robust` tries a million lists from outside
-# (SEED, COUNT and FIRST can be set); `make bench` measures.
-.PHONY: run test tool dist robust bench
+# `make help` says what there is to make.
+.PHONY: help run test tool dist robust bench clean FORCE
 
 archive := target/staticlib/libsleep_plan.a
 CC := gcc
 STRICT := -std=c99 -O2 -Wall -Wextra -pedantic -Werror
+
+help:
+	@echo 'make run      shows the product at work on a worked list'
+	@echo 'make test     passes all tests; installs what they need, and says so'
+	@echo 'make tool     builds target/jobs, which turns job lists as text into list bytes and pictures (docs/TOOL.md)'
+	@echo 'make dist     packs the part for buyers, for each processor, to target/dist'
+	@echo 'make robust   tries a million lists from outside; SEED, COUNT and FIRST can be set'
+	@echo 'make bench    measures'
+	@echo 'make clean    removes target/, and so all that was built and proved'
+	@echo 'All but make test say what is missing and install nothing.'
 
 run:
 	@tests/run_worked_list
@@ -14,14 +22,12 @@ tool: target/jobs
 	@:
 
 target/jobs: $(wildcard tools/jobs/*) include/sleep_plan.h $(archive)
-	@tests/install_missing $(CC)
+	@tests/needs $(CC)
 	@$(CC) $(STRICT) -Iinclude tools/jobs/*.c $(archive) -o $@
 
-# Whatever a proof or a function of the archive could rest on. `rt` itself knows what is still proved.
-$(archive): crates.txt $(shell find crates -name '*.rt' -o -name '*.antt')
-	@mkdir -p target
-	@rt staticlib sleep_plan > target/staticlib.log 2>&1 || { cat target/staticlib.log >&2; exit 1; }
-	@touch $@
+# It is built anew only if it is not current, which the script knows.
+target/staticlib/lib%.a: FORCE
+	@tools/staticlib $*
 
 test:
 	@tests/all
@@ -34,3 +40,6 @@ bench:
 
 robust:
 	@tests/host/entry/robust
+
+clean:
+	@rm -rf target

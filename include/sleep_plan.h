@@ -12,8 +12,16 @@
  * Of the jobs that are released, unfinished and due first, a slot with a job runs the one that the nearest earlier slot with a job ran, even if
  * the processor idled or slept in between; if that is none of them, the lowest number.
  *
- * One call does it all. It uses the three buffers it is given and a little stack: no heap, no file, no clock, no global variable. It may
+ * One call does it all. It uses the three buffers it is given and some stack: no heap, no file, no clock, no global variable. It may
  * be called from several threads at once, each with its own buffers. It always returns.
+ *
+ * There are archives for x86-64, Cortex-M0 and M0+ (thumbv6m), Cortex-M4 and M7 (thumbv7em), RISC-V (riscv32imac, ilp32) and AArch64
+ * (aarch64), all little endian. This header is for all of them. An archive asks two things of the firmware. Stack: have SLEEP_PLAN_STACK
+ * bytes free for the call, beside what interrupts take; this rests on measurement, not on proof. And functions for memory: memset and
+ * memcpy, on 32-bit ARM their __aeabi_ forms, on Cortex-M0 and M0+ also two 64-bit shifts. The libraries of a C compiler have them;
+ * lib/freestanding.c has them for firmware without such a library.
+ *
+ * sleep_plan_jobs.h has a function that writes a list from an array of jobs, and one that reads the numbers of the block.
  */
 #ifndef SLEEP_PLAN_H
 #define SLEEP_PLAN_H
@@ -25,11 +33,21 @@
 extern "C" {
 #endif
 
+/* The version of this header and of the archives that come with it. */
+#define SLEEP_PLAN_VERSION_MAJOR 0
+#define SLEEP_PLAN_VERSION_MINOR 9
+#define SLEEP_PLAN_VERSION_PATCH 0
+#define SLEEP_PLAN_VERSION "0.9.0"
+
 /* Sizes. A list has at most SLEEP_PLAN_LIST_MAX bytes, a plan at most SLEEP_PLAN_TABLE_MAX slots. */
 #define SLEEP_PLAN_JOBS_MAX 64
 #define SLEEP_PLAN_LIST_MAX 453
 #define SLEEP_PLAN_TABLE_MAX 4096
 #define SLEEP_PLAN_BLOCK_MIN 16
+
+/* Bytes of stack to have free for a call, on each processor. The deepest call that was measured took 2,160, on a Cortex-M0 with the functions of
+ * lib/freestanding.c, compiled at -O2; other functions for memory can take some bytes more. */
+#define SLEEP_PLAN_STACK 2304
 
 /* Bytes of the table that are no job number. */
 #define SLEEP_PLAN_IDLE 254
@@ -99,30 +117,24 @@ extern "C" {
  * A complete example, which prints "cost 13, awake 10, runs 1" and "0 2 2 2 2 2 254 254 1 1":
  *
  *   #include <stdio.h>
- *   #include "sleep_plan.h"
- *
- *   static unsigned long number(const uint8_t *block, int i) {
- *     const uint8_t *p = block + 4 * i;
- *     return p[0] | (unsigned long)p[1] << 8 | (unsigned long)p[2] << 16 | (unsigned long)p[3] << 24;
- *   }
+ *   #include "sleep_plan_jobs.h"
  *
  *   int main(void) {
- *     // 10 slots, a wake costs 3; jobs (0, 3, 1), (8, 10, 2), (0, 10, 5)
- *     const uint8_t list[] = { 10, 0, 3, 0, 3,
- *                              2, 3, 0,
- *                              5, 8, 0, 2, 0,
- *                              4, 5, 0 };
- *     uint8_t table[10], block[SLEEP_PLAN_BLOCK_MIN];
- *     uint32_t r = sleep_plan(list, sizeof list, table, sizeof table, block, sizeof block);
+ *     // 10 slots, a wake costs 3
+ *     const struct sleep_plan_job jobs[] = { { 0, 3, 1 }, { 8, 10, 2 }, { 0, 10, 5 } };
+ *     uint8_t list[SLEEP_PLAN_LIST_MAX], table[10], block[SLEEP_PLAN_BLOCK_MIN];
+ *     size_t length = sleep_plan_write_list(list, sizeof list, 10, 3, jobs, 3);
+ *     uint32_t r = sleep_plan(list, length, table, sizeof table, block, sizeof block);
+ *     unsigned long a = sleep_plan_number(block, 0), b = sleep_plan_number(block, 1), c = sleep_plan_number(block, 2);
  *     if (r == SLEEP_PLAN_OVERLOADED) {
- *       printf("too much to do from slot %lu up to slot %lu\n", number(block, 0), number(block, 1));
+ *       printf("too much to do from slot %lu up to slot %lu\n", a, b);
  *       return 1;
  *     }
  *     if (r != SLEEP_PLAN_PLANNED) {
- *       printf("refused: %lu at %lu\n", (unsigned long)r, number(block, 0));
+ *       printf("refused: %lu at %lu\n", (unsigned long)r, a);
  *       return 1;
  *     }
- *     printf("cost %lu, awake %lu, runs %lu\n", number(block, 0), number(block, 1), number(block, 2));
+ *     printf("cost %lu, awake %lu, runs %lu\n", a, b, c);
  *     for (int t = 0; t < 10; t++) printf("%d%c", table[t], t < 9 ? ' ' : '\n');
  *     return 0;
  *   }

@@ -1,48 +1,25 @@
 /* Times of sleep_plan beside three other implementations, on the same lists in one process; their tables are compared. Where a loop happens to lie
  * makes it a third quicker or slower on some processors, so each implementation is there in four places and its best one counts. */
 #define _GNU_SOURCE
-#include "list.h"
+#include "families.h"
 #include "other_planners.h"
 #include "sleep_plan.h"
-#include <pthread.h>
 #include <stdio.h>
 #include <stdlib.h>
 #include <string.h>
 #include <time.h>
 
-enum { FAMILIES = 11, SIZES = 4, PLACES = 4, STACK = 1 << 20, ROUNDS = 20 };
-static const char *family_name[FAMILIES] = {"one", "nested", "tiled", "loose", "random", "no job", "volume 1", "overload", "q 0", "q 65535", "tied"};
+enum { SIZES = 4, PLACES = 4, ROUNDS = 20 };
 static const int sizes[SIZES] = {512, 1024, 2048, 4096};
-
-static uint32_t seed;
-static int below(int n) { seed = seed * 1664525u + 1013904223u; return (int)((seed >> 8) % (uint32_t)n); }
 
 static uint8_t bytes[512], ours[MAX_H], other[MAX_H], scratch[MAX_H], working[MAX_H], block[16];
 static uint32_t best_block[4], plain_block[4];
 static size_t bytes_len;
 static struct jobs jobs;
 
-/* The bytes of a family's list with h slots, and the list that *limit* is given; its working slots come from the plan (`differs`). */
+/* A family's list, and the one that *limit* is given; its working slots come from the plan (`differs`). */
 static void make(int f, int h) {
-  struct list l;
-  memset(&l, 0, sizeof l); /* so memset is bound before a call is counted */
-  seed = 7;
-  l.h = (unsigned)h;
-  l.q = f == 8 ? 0 : f == 9 ? 65535 : 3;
-  l.n = f == 0 ? 1 : f == 5 ? 0 : JOBS;
-  for (int i = 0; i < (int)l.n; i++) {
-    int r, d, p;
-    if (f == 0) { r = 0; d = h; p = h; }
-    else if (f == 1) { r = i * h / 160; d = h - i * h / 160; p = h / 80; }
-    else if (f == 2) { r = i * (h / 64); d = r + h / 64; p = h / 128; }
-    else if (f == 10) { r = (63 - i) * h / 80; d = h; p = h / 90; }
-    else if (f == 3) { r = below(h / 4); d = h - below(h / 4); p = h / 70; }
-    else { r = below(h); d = r + 1 + below(h - r); p = f == 6 ? 1 : 1 + below((d - r + 39) / 40); }
-    l.job[i] = (struct job){ (unsigned)r, (unsigned)d, (unsigned)p, 0 };
-  }
-  if (f == 7) l.job[63] = (struct job){ 0, l.h, l.h, 0 };
-  settle(&l);
-  bytes_len = spell(&l, bytes);
+  bytes_len = family_list(f, h, bytes);
   read_jobs(bytes, bytes_len, &jobs);
 }
 
@@ -87,32 +64,12 @@ static int differs(void) {
   return memcmp(ours, scratch, (size_t)jobs.h) != 0;
 }
 
-/* The deepest stack that a call touches: it runs on a painted stack of its own. */
-static void *on_stack(void *unused) { (void)unused; call_ours(); return NULL; }
-static void *nothing(void *unused) { (void)unused; return NULL; }
-
-static size_t touched(void *(*what)(void *)) {
-  unsigned char *stack = aligned_alloc(4096, STACK);
-  pthread_attr_t attr;
-  pthread_t thread;
-  size_t i = 0;
-  memset(stack, 0xA5, STACK);
-  pthread_attr_init(&attr);
-  pthread_attr_setstack(&attr, stack, STACK);
-  pthread_create(&thread, &attr, what, NULL);
-  pthread_join(thread, NULL);
-  while (i < STACK && stack[i] == 0xA5) i++;
-  free(stack);
-  return STACK - i;
-}
-
 int main(int argc, char **argv) {
   if (argc > 1) { /* one call on a family at 4,096 slots, for a counter of instructions */
     make(atoi(argv[1]), 4096);
     call_ours();
     return 0;
   }
-  size_t deepest = 0;
   printf("%-9s %5s %9s %9s %9s %9s %7s %7s\n", "family", "H", "limit", "best", "plain", "ours", "/limit", "/best");
   for (int f = 0; f < FAMILIES; f++) {
     double at_first = 0;
@@ -126,10 +83,7 @@ int main(int argc, char **argv) {
       if (s == 0) at_first = o;
       printf("%-9s %5d %9.1f %9.1f %9.1f %9.1f %7.1f %7.2f\n", family_name[f], jobs.h, l, b, p, o, o / l, o / b);
       if (s == SIZES - 1) printf("%-9s       grows %.1f-fold from %d to %d slots\n", "", o / at_first, sizes[0], sizes[SIZES - 1]);
-      size_t depth = touched(on_stack) - touched(nothing);
-      if (depth > deepest) deepest = depth;
     }
   }
-  printf("deepest stack: %zu bytes\n", deepest);
   return 0;
 }

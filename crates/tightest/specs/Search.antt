@@ -50,7 +50,7 @@ pub record Startable (releases order : List ℕ) (b : ℕ) : Type 0 where
   pub below : place < length order
   pub sooner : getD releases (getD order place 0) 0 < b
 
--- the first n of the order are released before b, and the next is not
+-- the n-th of the order is released before b, and none behind it is; where the order climbs, so are all before it
 pub record CountsBefore (releases order : List ℕ) (b n : ℕ) : Type 0 where
   pub some : 0 < n
   pub within : n ≤ length order

@@ -1,4 +1,4 @@
-/* The planner in a program without a C library, on x86-64 Linux. It plans document 01's third worked list and ends with 0 if the number, the
+/* The planner in a program without a C library, on x86-64 Linux, with lib/freestanding.c. It plans document 01's third worked list and ends with 0 if the number, the
  * table and the block are as expected, else with 1, 2 or 3 for the first of them that is not. */
 #include "sleep_plan.h"
 
@@ -10,26 +10,6 @@ __asm__(".text\n"
         "  mov %eax, %edi\n"
         "  mov $60, %eax\n"
         "  syscall\n");
-
-/* All that the archive may ask for. */
-void *memset(void *to, int value, size_t n) {
-  for (uint8_t *t = (uint8_t *)to; n > 0; n--) *t++ = (uint8_t)value;
-  return to;
-}
-
-void *memcpy(void *to, const void *from, size_t n) {
-  const uint8_t *f = (const uint8_t *)from;
-  for (uint8_t *t = (uint8_t *)to; n > 0; n--) *t++ = *f++;
-  return to;
-}
-
-void *memmove(void *to, const void *from, size_t n) {
-  uint8_t *t = (uint8_t *)to;
-  const uint8_t *f = (const uint8_t *)from;
-  if ((uintptr_t)t <= (uintptr_t)f) return memcpy(to, from, n);
-  for (; n > 0; n--) t[n - 1] = f[n - 1];
-  return to;
-}
 
 static int differ(const uint8_t *a, const uint8_t *b, size_t n) {
   for (size_t i = 0; i < n; i++)
@@ -44,8 +24,8 @@ static const uint8_t block_expected[] = {13, 0, 0, 0, 10, 0, 0, 0, 1, 0, 0, 0, 6
 static uint8_t table[sizeof table_expected], block[sizeof block_expected];
 
 int check(void) {
-  memset(table, 170, sizeof table);
-  memset(block, 170, sizeof block);
+  for (size_t i = 0; i < sizeof table; i++) table[i] = 170;
+  for (size_t i = 0; i < sizeof block; i++) block[i] = 170;
   if (sleep_plan(list, sizeof list, table, sizeof table, block, sizeof block) != SLEEP_PLAN_PLANNED) return 1;
   if (differ(table, table_expected, sizeof table)) return 2;
   if (differ(block, block_expected, sizeof block)) return 3;

@@ -1,5 +1,5 @@
 -- 02, card 1, "Say which job field is bad": when a list is refused for a job, and which job and field it is then. `listCheck` is what planner,
--- judge and list writer begin with; for the list reader see `joblist/specs/Theorems/FaultyField`.
+-- judge, list writer and the search for the tightest interval begin with; for the list reader see `joblist/specs/Theorems/FaultyField`.
 use Prim.Native.Nat.{ℕ, zero, suc, _+_, _≤_, _<_}
 use mathlib.Core.Path.{_≡_, refl, ap, sym, subst, _∙_}
 use mathlib.Core.Bool.{Bool, true, false, not}

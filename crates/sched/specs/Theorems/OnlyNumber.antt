@@ -1,5 +1,5 @@
--- 02, card 1, "Say which job field is bad": all that the card changed in the answers of the list checks. `listCheck` is what planner, judge and
--- list writer begin with; for the list reader see `joblist/specs/Theorems/OnlyNumber`.
+-- 02, card 1, "Say which job field is bad": all that the card changed in the answers of the list checks. `listCheck` is what planner, judge, list
+-- writer and the search for the tightest interval begin with; for the list reader see `joblist/specs/Theorems/OnlyNumber`.
 use Prim.Native.Nat.{ℕ, zero, suc}
 use mathlib.Core.Path.{_≡_, refl, ap, _∙_}
 use mathlib.Core.Bool.{Bool, true, false, not, _||_}
