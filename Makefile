@@ -1,6 +1,9 @@
 # `make help` says what there is to make.
 .PHONY: help run test tool dist robust bench clean FORCE
 
+# It would lead a script's cd elsewhere.
+unexport CDPATH
+
 archive := target/staticlib/libsleep_plan.a
 CC := gcc
 STRICT := -std=c99 -O2 -Wall -Wextra -pedantic -Werror

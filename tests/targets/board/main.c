@@ -116,6 +116,7 @@ int main(void) {
     const char *what = differs(test);
     if (what) { say(test->what); say(": "); say(what); say("\n"); status = 1; }
   }
+  if (deepest == 0 || deepest >= SLEEP_PLAN_STACK) { say("not the stack that sleep_plan.h says: "); status = 1; }
   say_number(count); say(" lists, deepest stack "); say_number(deepest); say(" bytes\n");
   return status;
 }
