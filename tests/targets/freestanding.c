@@ -1,4 +1,4 @@
-/* Holds dist/freestanding.c to plain loops and to the host's own shifts. It is linked with that file, in which the three C names begin with
+/* Holds lib/freestanding.c to plain loops and to the host's own shifts. It is linked with that file, in which the three C names begin with
  * part_ and the ARM names are there too. Prints what it tried, or where it differs and ends with 1. */
 #include <stddef.h>
 #include <stdint.h>

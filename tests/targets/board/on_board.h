@@ -1,5 +1,5 @@
 /* The driver on a board, without an operating system: the emulator reads calls from its standard input. There are no pages to guard; what lies
- * around the buffers is compared, and the stack ends where the memory of the driver begins. */
+ * around the buffers is compared, and the stack is the lowest part of `memory`. */
 #ifndef ON_BOARD_H
 #define ON_BOARD_H
 #include "semihosting.h"
