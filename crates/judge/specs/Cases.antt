@@ -3,7 +3,7 @@
 use mathlib.Core.Path.{_≡_, refl}
 use mathlib.Core.List.{[], _∷_}
 use Rattle.sched.specs.Jobs.{Jobs, jobsOf}
-use Rattle.sched.specs.Cases.{third, thirdTable}
+use Rattle.sched.specs.Cases.{third, thirdTable, startAwake}
 use Rattle.sched.specs.Checks.{checkFrom}
 use Rattle.sched.specs.Slots.{times, awakeOf}
 use Rattle.sched.specs.Energy.{awakeSlots, runsFrom}
@@ -17,6 +17,11 @@ use Rattle.sched.specs.Runs.{leading, runListFrom, runList}
 pub third-accepted : judged third thirdTable ≡ Accepted (record { energy = 13; awake = 10; runs = 1 })
 unfolding judged faultsBy slotsFrom rareFrom checkFrom times awakeSlots runsFrom
 third-accepted = refl
+
+-- 02, card 10: from a start awake the same table costs no wake, and its run is counted all the same
+pub third-accepted-awake : judged (startAwake third) thirdTable ≡ Accepted (record { energy = 10; awake = 10; runs = 1 })
+unfolding judged faultsBy slotsFrom rareFrom checkFrom times awakeSlots runsFrom
+third-accepted-awake = refl
 
 pub third-stretches : runList (awakeOf thirdTable) ≡ record { first = 0; slots = 10 } ∷ []
 unfolding runListFrom leading

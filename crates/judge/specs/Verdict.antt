@@ -1,7 +1,7 @@
 -- 01, "From list to table", last paragraph: the judge's answer for every list and table, and the number and values of each case.
 use Prim.Native.Nat.{ℕ, _≤_}
 use mathlib.Core.Path.{_≡_}
-use mathlib.Core.Bool.{false}
+use mathlib.Core.Bool.{Bool}
 use mathlib.Core.List.{List, [], _∷_}
 use lib.ListN.{length, take}
 use Rattle.sched.specs.Jobs.{Jobs}
@@ -45,8 +45,8 @@ abbrev pub judgedValues : Judged → List ℕ
 judgedValues (Accepted f) = f .energy ∷ f .awake ∷ f .runs ∷ []
 judgedValues (Refused r) = place r ∷ []
 
--- an answer is just to the H bytes that were judged: they are accepted exactly when they are a feasible schedule, and then their energy, awake
--- slots and runs are told
+-- an answer is just to the H bytes that were judged: they are accepted exactly when they are a feasible schedule, and then their energy from
+-- the list's start, awake slots and runs are told; from a start asleep that is the energy of 000 (`asleep-energy`, `sched/specs/Energy/Laws`)
 pub record Just (J : Jobs) (slots : List ℕ) (answer : Judged) : Type 0 where
   pub accepted-feasible : judgedNumber answer ≡ 0 → Feasible J slots
   pub feasible-accepted : Feasible J slots → judgedNumber answer ≡ 0
@@ -61,8 +61,8 @@ pub record Judges (J : Jobs) (table : List ℕ) (answer : Judged) : Type 0 where
   pub checked : judgedNumber answer ≡ 0 → Passes J × (J .horizon ≤ length table)
   pub just : Passes J → J .horizon ≤ length table → Just J (take (J .horizon) table) answer
 
--- what is promised of a table of just H bytes, for every J with this wake cost and a start asleep: the jobs' fields are rs, ds and ps, and J's own do not
+-- what is promised of a table of just H bytes, for every J with this wake cost and start: the jobs' fields are rs, ds and ps, and J's own do not
 -- matter
-abbrev pub JudgesSlots : ℕ → List ℕ → List ℕ → List ℕ → List ℕ → Judged → Type 0
-JudgesSlots q rs ds ps slots answer =
-    (J : Jobs) → J .wake ≡ q → J .start ≡ false → answer ≡ accepts (faultsCheck rs ds ps slots) (tableFigures J slots)
+abbrev pub JudgesSlots : ℕ → Bool → List ℕ → List ℕ → List ℕ → List ℕ → Judged → Type 0
+JudgesSlots q start rs ds ps slots answer =
+    (J : Jobs) → J .wake ≡ q → J .start ≡ start → answer ≡ accepts (faultsCheck rs ds ps slots) (tableFigures J slots)

@@ -1,4 +1,4 @@
--- Demand 3, in the words of `sched`: two planners with one list that passes the list checks, and one wake cost. A rival's schedule is any
+-- Demand 3, in the words of `sched`: two planners with one list that passes the list checks, one wake cost and one start. A rival's schedule is any
 -- feasible table of H bytes. An answer is given by what can be read off it: whether it says overloaded, which interval it shows, and which
 -- energy it reports. So the records here serve the planner on lent lists, the call from C, and any other planner.
 use Prim.Native.Nat.{ℕ, _+_, _-_, _≤_}
@@ -42,7 +42,8 @@ pub record Sound (J : Jobs) (a : Answered) (table : List ℕ) : Type 0 where
   pub interval : (from to : ℕ) → a .shows from to → Overfull J from to
   pub otherwise : (a .overloaded → ⊥) → HandsOver J a table
 
--- the energy limit: what is reported is at most a rival's energy plus the sum of all volumes
+-- the energy limit: what is reported is at most a rival's energy plus the sum of all volumes. Card 10: "The rival in the energy limit starts in the same
+-- state": its energy, too, is that of J.
 abbrev pub WithinLimit : Jobs → Answered → Type 0
 WithinLimit J a = (reported : ℕ) → a .reports reported → (rival : List ℕ) → Feasible J rival → reported ≤ energy J (awakeOf rival) + totalVolume J
 

@@ -1,7 +1,9 @@
--- 01, "Plans worked by hand": the starred plans, in one table, and the one claim that the definitions give just these, so that a wrong edit
--- of a definition is refused here; at the end, slept tables and faulty jobs. Figures and tables are those after cards 5 and 6 of 02. What 01 and 02 do not name (some skeletons, orders, tables and figures) was
--- computed by a separate search, or by hand. The three rows before the last are card 6's: its own table, a job that gave way and has no claim afterwards, and a job that goes on
--- behind a sleeping slot. The last row is a plan that is not the best, with two stretches of just q slots: it has a rival's table that costs less, and the claim speaks of that, too.
+-- 01, "Plans worked by hand": the starred plans, in one table, and the one claim that the definitions give just these, so that a wrong edit of a
+-- definition is refused here; at the end, slept tables, plans from a start awake (02, card 10) and faulty jobs. Figures and tables are those after
+-- cards 5 and 6 of 02. What 01 and 02 do not name (some skeletons, orders, tables and figures) was computed by a separate search, or by hand. The
+-- three rows before the last are card 6's: its own table, a job that gave way and has no claim afterwards, and a job that goes on behind a sleeping
+-- slot. The last row is a plan that is not the best, with two stretches of just q slots: it has a rival's table that costs less, and the claim speaks
+-- of that, too.
 use Prim.Native.Nat.{ℕ, suc, _<_}
 use mathlib.Core.Path.{_≡_, refl}
 use mathlib.Core.Bool.{Bool, true, false, _&&_}
@@ -13,7 +15,7 @@ use lib.ListN.{replicate}
 use lib.Dec.{ltb, eqb}
 use Rattle.sched.specs.Bounded.{total, anyBelow, allBelow, sumBelow, maxBelow, leastFrom, lastBelow, valuesFrom, keep, firstLeast}
 use Rattle.sched.specs.Bounded.Laws.{and-true}
-use Rattle.sched.specs.Jobs.{Jobs, jobsOf}
+use Rattle.sched.specs.Jobs.{Jobs, jobsFrom, jobsOf}
 use Rattle.sched.specs.Checks.{checkFrom, checkOf, checkedNumber, checkedValues}
 use Rattle.sched.specs.Slots.{awakeOf, times, allSets}
 use Rattle.sched.specs.Energy.{awakeSlots, runs, runsFrom, energy}
@@ -212,7 +214,7 @@ starred-plans = all-right starred refl refl
 -- 02, card 5: tables of one job each before and after the sleep rule. A stretch of one, two and three slots with wake costs 0 to 4; slots before the
 -- first and after the last working one; no working slot; and bytes that are neither a job nor 254 or 255.
 pub slept-tables :
-    map (λ q. sleepRule q (254 ∷ 0 ∷ 254 ∷ 0 ∷ 255 ∷ 255 ∷ 0 ∷ 254 ∷ 255 ∷ 254 ∷ 0 ∷ 255 ∷ [])) (0 ∷ 1 ∷ 2 ∷ 3 ∷ 4 ∷ [])
+    map (λ q. sleepRule q false (254 ∷ 0 ∷ 254 ∷ 0 ∷ 255 ∷ 255 ∷ 0 ∷ 254 ∷ 255 ∷ 254 ∷ 0 ∷ 255 ∷ [])) (0 ∷ 1 ∷ 2 ∷ 3 ∷ 4 ∷ [])
     ≡ (255 ∷ 0 ∷ 255 ∷ 0 ∷ 255 ∷ 255 ∷ 0 ∷ 255 ∷ 255 ∷ 255 ∷ 0 ∷ 255 ∷ [])
     ∷ (255 ∷ 0 ∷ 255 ∷ 0 ∷ 255 ∷ 255 ∷ 0 ∷ 255 ∷ 255 ∷ 255 ∷ 0 ∷ 255 ∷ [])
     ∷ (255 ∷ 0 ∷ 254 ∷ 0 ∷ 255 ∷ 255 ∷ 0 ∷ 255 ∷ 255 ∷ 255 ∷ 0 ∷ 255 ∷ [])
@@ -223,9 +225,55 @@ unfolding leastFrom lastBelow valuesFrom sleepRule
 slept-tables = refl
 
 pub slept-bytes :
-    map (sleepRule 9) ((254 ∷ 254 ∷ []) ∷ (63 ∷ 64 ∷ 253 ∷ 63 ∷ 64 ∷ []) ∷ [] ∷ []) ≡ (255 ∷ 255 ∷ []) ∷ (63 ∷ 254 ∷ 254 ∷ 63 ∷ 255 ∷ []) ∷ [] ∷ []
+    map (sleepRule 9 false) ((254 ∷ 254 ∷ []) ∷ (63 ∷ 64 ∷ 253 ∷ 63 ∷ 64 ∷ []) ∷ [] ∷ []) ≡ (255 ∷ 255 ∷ []) ∷ (63 ∷ 254 ∷ 254 ∷ 63 ∷ 255 ∷ []) ∷ [] ∷ []
 unfolding leastFrom lastBelow valuesFrom sleepRule
 slept-bytes = refl
+
+-- 02, card 10: the first seven slots of the same table from a start awake, whose first stretch has one slot; and stretches of one to three slots in
+-- front of a working slot, with wake cost 2. With no working slot everything sleeps, whatever the start.
+pub slept-awake :
+    map (λ q. sleepRule q true (254 ∷ 0 ∷ 254 ∷ 0 ∷ 255 ∷ 255 ∷ 0 ∷ [])) (0 ∷ 1 ∷ 2 ∷ 3 ∷ [])
+    ≡ (255 ∷ 0 ∷ 255 ∷ 0 ∷ 255 ∷ 255 ∷ 0 ∷ [])
+    ∷ (255 ∷ 0 ∷ 255 ∷ 0 ∷ 255 ∷ 255 ∷ 0 ∷ [])
+    ∷ (254 ∷ 0 ∷ 254 ∷ 0 ∷ 255 ∷ 255 ∷ 0 ∷ [])
+    ∷ (254 ∷ 0 ∷ 254 ∷ 0 ∷ 254 ∷ 254 ∷ 0 ∷ [])
+    ∷ []
+unfolding leastFrom lastBelow valuesFrom sleepRule
+slept-awake = refl
+
+pub slept-front :
+    map (sleepRule 2 true) ((0 ∷ 255 ∷ []) ∷ (255 ∷ 0 ∷ []) ∷ (254 ∷ 254 ∷ 0 ∷ []) ∷ (254 ∷ 254 ∷ 254 ∷ 0 ∷ []) ∷ (254 ∷ 254 ∷ []) ∷ [])
+    ≡ (0 ∷ 255 ∷ []) ∷ (254 ∷ 0 ∷ []) ∷ (255 ∷ 255 ∷ 0 ∷ []) ∷ (255 ∷ 255 ∷ 255 ∷ 0 ∷ []) ∷ (255 ∷ 255 ∷ []) ∷ []
+unfolding leastFrom lastBelow valuesFrom sleepRule
+slept-front = refl
+
+-- 02, card 10: worked plans from a start awake, and at the end three of these lists from a start asleep, to compare. In the first the start touches
+-- nothing, so that slot 0 is not woken; in the fifth all of the skeleton sleeps in the end; the sixth has a run that is free and one that is paid.
+-- Longer lists are in `laws_rivals/specs/Cases`.
+abbrev pub startAwake : Jobs → Jobs
+startAwake J = jobsFrom (J .horizon) (J .wake) true (J .releases) (J .deadlines) (J .volumes)
+
+pub startedAwake : List Row
+startedAwake =
+    plans (startAwake (jobs 4 2 (job 0 2 1 ∷ job 3 4 1 ∷ []))) (2 ∷ []) (1 ∷ 3 ∷ []) (254 ∷ 0 ∷ 254 ∷ 1 ∷ []) (4 ∷ 4 ∷ 1 ∷ 2 ∷ [])
+    ∷ plans (startAwake (jobs 3 2 (job 0 1 1 ∷ job 2 3 1 ∷ []))) (0 ∷ 1 ∷ []) (2 ∷ []) (0 ∷ 254 ∷ 1 ∷ []) (3 ∷ 3 ∷ 1 ∷ 1 ∷ [])
+    ∷ plans (startAwake (jobs 4 1 (job 0 2 1 ∷ job 2 3 1 ∷ []))) (2 ∷ []) (1 ∷ []) (255 ∷ 0 ∷ 1 ∷ 255 ∷ []) (3 ∷ 2 ∷ 1 ∷ 1 ∷ [])
+    ∷ plans (startAwake (jobs 2 1 (job 0 1 1 ∷ []))) (0 ∷ []) [] (0 ∷ 255 ∷ []) (1 ∷ 1 ∷ 1 ∷ 0 ∷ [])
+    ∷ plans (startAwake (jobs 4 2 (job 2 4 1 ∷ []))) (0 ∷ 1 ∷ []) (2 ∷ []) (255 ∷ 255 ∷ 0 ∷ 255 ∷ []) (3 ∷ 1 ∷ 1 ∷ 1 ∷ [])
+    ∷ plans (startAwake (jobs 4 1 (job 0 1 1 ∷ job 3 4 1 ∷ []))) (1 ∷ 2 ∷ []) (0 ∷ 3 ∷ []) (0 ∷ 255 ∷ 255 ∷ 1 ∷ []) (3 ∷ 2 ∷ 2 ∷ 2 ∷ [])
+    ∷ plans (startAwake (jobs 1 5 [])) [] [] (255 ∷ []) (0 ∷ 0 ∷ 0 ∷ 0 ∷ [])
+    ∷ plans (jobs 4 2 (job 0 2 1 ∷ job 3 4 1 ∷ [])) (2 ∷ []) (1 ∷ 3 ∷ []) (255 ∷ 0 ∷ 254 ∷ 1 ∷ []) (5 ∷ 3 ∷ 1 ∷ 2 ∷ [])
+    ∷ plans (jobs 3 2 (job 0 1 1 ∷ job 2 3 1 ∷ [])) (1 ∷ []) (0 ∷ 2 ∷ []) (0 ∷ 254 ∷ 1 ∷ []) (5 ∷ 3 ∷ 1 ∷ 2 ∷ [])
+    ∷ plans (jobs 2 1 (job 0 1 1 ∷ [])) (1 ∷ []) (0 ∷ []) (0 ∷ 255 ∷ []) (2 ∷ 1 ∷ 1 ∷ 1 ∷ [])
+    ∷ []
+
+pub started-awake-plans : (row : Row) → List·Memᴰ row startedAwake → Right row
+unfolding startedAwake members skeletonFor orderFor found plans cheaperTest allCheaper
+    times total anyBelow allBelow sumBelow maxBelow leastFrom lastBelow keep firstLeast checkFrom allSets awakeSlots runsFrom
+    volumeIf volumeInside overloaded overloadEndingAt shownOverload isSkeleton skeletons leastOf leastSkeleton mostFrom workable
+    helps wakeable nextWake wokenIn woken wakeAll extended earliest urgent goesOn fillBy tableOf valuesFrom sleepRule tableFrom planTable
+    figuresOf planned earlyAnswer planBy plan
+started-awake-plans = all-right startedAwake refl refl
 
 -- 02, card 1: faulty jobs in eight slots behind a good one, each with the number that comes back. First each fault alone, then each pair, then
 -- all three; the last three are next to a fault and have none.

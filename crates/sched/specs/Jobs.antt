@@ -1,6 +1,6 @@
 -- 01, "Words of the plan", first paragraph: a list is a horizon H, a wake cost q, and jobs numbered from 0, each with release, deadline
--- and volume. The three lists of fields are kept apart, as they are lent; `Checks` says which of them belong together. The state before
--- slot 0 is a part of the list, so that what is proved of energy, skeletons and the first four steps holds for either; step 5's rule is for a start asleep.
+-- and volume. The three lists of fields are kept apart, as they are lent; `Checks` says which of them belong together. The start, the state before
+-- slot 0 (02, card 10), is a part of the list: true is awake. What is proved of energy, skeletons and the steps holds for either.
 use Prim.Native.Nat.{ℕ}
 use mathlib.Core.Bool.{Bool, false}
 use mathlib.Core.List.{List}
@@ -19,7 +19,7 @@ pub record Jobs : Type 0 where
 abbrev pub jobsFrom : ℕ → ℕ → Bool → List ℕ → List ℕ → List ℕ → Jobs
 jobsFrom h q start rs ds ps = record { horizon = h; wake = q; start = start; releases = rs; deadlines = ds; volumes = ps }
 
--- the list that is lent as two numbers and three lists of fields: "Before slot 0 the processor sleeps."
+-- the same from a start asleep, as 01 has it: "Before slot 0 the processor sleeps."
 abbrev pub jobsOf : ℕ → ℕ → List ℕ → List ℕ → List ℕ → Jobs
 jobsOf h q rs ds ps = jobsFrom h q false rs ds ps
 

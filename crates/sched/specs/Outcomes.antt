@@ -49,7 +49,7 @@ planned J lent =
     let table = planTable J in
     record { answer = Planned (figuresOf J table (length (woken J (leastSkeleton J)))); table = table ++ drop (J .horizon) lent }
 
--- the plan of 01, with cards 5 and 6 of 02
+-- the plan of 01, with cards 5, 6 and 10 of 02
 unfoldable pub plan : Jobs → List ℕ → Plan
 plan J lent = planBy planned J lent
 

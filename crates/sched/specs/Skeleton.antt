@@ -14,7 +14,8 @@ use Rattle.sched.specs.Energy.{energy}
 abbrev pub inWindow : Jobs → ℕ → ℕ → Bool
 inWindow J j t = leb (release J j) (suc t) && leb t (deadline J j)
 
--- "a set of awake slots that has, for each job, at least one slot among r−1 to d, as far as these lie in 0 to H−1"
+-- "a set of awake slots that has, for each job, at least one slot among r−1 to d, as far as these lie in 0 to H−1". Card 10: from a start awake "A
+-- skeleton still needs slots of its own": the start is a state and meets no window.
 unfoldable pub isSkeleton : Jobs → List Bool → Bool
 isSkeleton J S = allBelow (count J) (λ j. anyBelow (J .horizon) (λ t. awake S t && inWindow J j t))
 
@@ -26,7 +27,7 @@ unfoldable pub leastOf : Jobs → List (List Bool) → List Bool
 leastOf J [] = []
 leastOf J (S ∷ rest) = firstLeast (energy J) S rest
 
--- "the skeleton of least energy. Among equals take the one that, at the first slot where two differ, is asleep."
+-- from the list's start "the skeleton of least energy. Among equals take the one that, at the first slot where two differ, is asleep."
 unfoldable pub leastSkeleton : Jobs → List Bool
 leastSkeleton J = leastOf J (skeletons J)
 

@@ -39,7 +39,7 @@ times j (byte ∷ rest) = elim (eqb byte j) [ true ↦ suc (times j rest) | fals
 abbrev pub wakeSlot : List Bool → ℕ → List Bool
 wakeSlot S t = set S t true
 
--- the slot before t is awake; before slot 0 there is none
+-- the slot before t is awake; before slot 0 there is none, also if the start is awake
 abbrev pub awakeBefore : List Bool → ℕ → Bool
 awakeBefore S zero = false
 awakeBefore S (suc t) = awake S t

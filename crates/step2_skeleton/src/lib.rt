@@ -7,7 +7,7 @@ ghost use lib.Dec.{ltb};
 ghost use Rattle.sched.specs.Jobs.{Jobs};
 ghost use Rattle.sched.specs.Skeleton.{leastSkeleton};
 ghost use Rattle.step2_skeleton.specs.Marks.{marked, withRun};
-ghost use Rattle.step2_skeleton.specs.Places.{oneOf, wins, largest, AtMostFrom, Placeable, SleepFrom, EndFrom, Windows, Priceable, Step, Fresh, Untils, Drawable, Drawn, MarkableWindows, MarkedWindows, Markable};
+ghost use Rattle.step2_skeleton.specs.Places.{oneOf, wins, largest, AtMostFrom, Placeable, SleepFrom, EndFrom, Windows, Priceable, Step, Fresh, Priced, Frontable, FrontFrom, Drawable, Drawn, MarkableWindows, MarkedWindows, Markable};
 use sched::ASLEEP;
 use sched::IDLE;
 use sched::fill;
@@ -153,13 +153,27 @@ fn price_all(
     untils: &mut [u16],
 )
     requires { ⌜ Fresh q (now starts) (now ends) (now values) (now rests) (now untils) ⌝ }
-    ensures { λ r. ⌜ ((J : Jobs) (ranks : List ℕ) → Windows (now (starts .entry)) (now (ends .entry)) J ranks → J .wake ≡ q → Untils J ranks (now (untils .exit)) 0) ⌝ }
+    ensures { λ r. ⌜ ((J : Jobs) (ranks : List ℕ) → Windows (now (starts .entry)) (now (ends .entry)) J ranks → J .wake ≡ q → Priced (now (starts .entry)) (now (values .exit)) (now (rests .exit)) (now (untils .exit)) J ranks 0) ⌝ }
 {
     let mut i = starts.len();
     while 0 < i {
         i -= 1;
         price(q, starts, ends, values, rests, untils, i);
     }
+}
+
+// The slot before which a run from before slot 0 ends, 0 where there is none: only a start awake can have one, which then is paid for by its slots
+// alone.
+fn front_end(q: u16, start: bool, starts: &[u16], values: &[u32], rests: &[u32]) -> usize
+    requires { ⌜ Frontable (now starts) (now values) (now rests) ⌝ }
+    ensures { λ r. ⌜ FrontFrom q start (now (starts .entry)) (now (values .entry)) (now (rests .entry)) r ⌝ }
+{
+    if start {
+        let asleep = sleep_cost(q, starts, values, 0, 0);
+        let best = best_end(starts, rests, 0, 0, asleep);
+        return best.end as usize;
+    }
+    0
 }
 
 // The slots from s on: asleep up to slot `first`, awake from there up to slot `end`. Other slots keep their bytes.
@@ -171,12 +185,12 @@ fn draw_run(table: &mut [u8], s: usize, first: usize, end: usize)
     fill(table, first, end, IDLE);
 }
 
-// A window that starts at s, the end of the last run, or later begins a run in its last slot.
-fn draw(starts: &[u16], ends: &[u16], untils: &[u16], table: &mut [u8])
-    requires { ⌜ Drawable (now starts) (now ends) (now untils) (now table) ⌝ }
-    ensures { λ r. ⌜ Drawn (now (starts .entry)) (now (ends .entry)) (now (untils .entry)) (now (table .exit)) ⌝ }
+// Behind the run in front, a window that starts at s, the end of the last run, or later begins a run in its last slot.
+fn draw(front: usize, starts: &[u16], ends: &[u16], untils: &[u16], table: &mut [u8])
+    requires { ⌜ Drawable front (now starts) (now ends) (now untils) (now table) ⌝ }
+    ensures { λ r. ⌜ Drawn front (now (starts .entry)) (now (ends .entry)) (now (untils .entry)) (now (table .exit)) ⌝ }
 {
-    let mut s: usize = 0;
+    let mut s = front;
     let mut i = 0;
     while i < starts.len() {
         if (starts[i] as usize) < s {
@@ -192,9 +206,9 @@ fn draw(starts: &[u16], ends: &[u16], untils: &[u16], table: &mut [u8])
     fill(table, s, h, ASLEEP);
 }
 
-fn mark_windows(q: u16, starts: &[u16], ends: &[u16], table: &mut [u8])
+fn mark_windows(q: u16, start: bool, starts: &[u16], ends: &[u16], table: &mut [u8])
     requires { ⌜ MarkableWindows q (now starts) (now ends) (now table) ⌝ }
-    ensures { λ r. ⌜ MarkedWindows q (now (starts .entry)) (now (ends .entry)) (now (table .exit)) ⌝ }
+    ensures { λ r. ⌜ MarkedWindows q start (now (starts .entry)) (now (ends .entry)) (now (table .exit)) ⌝ }
 {
     let n = starts.len();
     let mut values = [0u32; 64];
@@ -208,13 +222,23 @@ fn mark_windows(q: u16, starts: &[u16], ends: &[u16], table: &mut [u8])
         &mut rests[..n],
         &mut untils[..n],
     );
-    draw(starts, ends, &untils[..n], table);
+    let front = front_end(q, start, starts, &values[..n], &rests[..n]);
+    fill(table, 0, front, IDLE);
+    draw(front, starts, ends, &untils[..n], table);
 }
 
 // The least skeleton of a list that passes the checks: awake and idle, or asleep.
-pub fn mark(h: u16, q: u16, releases: &[u16], deadlines: &[u16], ranks: &[u8], table: &mut [u8])
-    requires { ⌜ ((J : Jobs) × Markable J h q (now releases) (now deadlines) (now ranks) (now table)) ⌝ }
-    ensures { λ r. ⌜ ((J : Jobs) → Markable J h q (now (releases .entry)) (now (deadlines .entry)) (now (ranks .entry)) (now (table .entry)) → now (table .exit) ≡ marked (leastSkeleton J)) ⌝ }
+pub fn mark(
+    h: u16,
+    q: u16,
+    start: bool,
+    releases: &[u16],
+    deadlines: &[u16],
+    ranks: &[u8],
+    table: &mut [u8],
+)
+    requires { ⌜ ((J : Jobs) × Markable J h q start (now releases) (now deadlines) (now ranks) (now table)) ⌝ }
+    ensures { λ r. ⌜ ((J : Jobs) → Markable J h q start (now (releases .entry)) (now (deadlines .entry)) (now (ranks .entry)) (now (table .entry)) → now (table .exit) ≡ marked (leastSkeleton J)) ⌝ }
 {
     let n = ranks.len();
     let mut starts = [0u16; 64];
@@ -227,5 +251,5 @@ pub fn mark(h: u16, q: u16, releases: &[u16], deadlines: &[u16], ranks: &[u8], t
         &mut starts[..n],
         &mut ends[..n],
     );
-    mark_windows(q, &starts[..n], &ends[..n], table);
+    mark_windows(q, start, &starts[..n], &ends[..n], table);
 }

@@ -11,6 +11,14 @@ pub fn text(s: &[u8]) {
     io::write_all(STDOUT_FILENO, s);
 }
 
+// Prints the name of a line, behind `awake ` where the processor is awake before slot 0.
+pub fn begin(start: bool, name: &[u8]) {
+    if start {
+        text(b"awake ");
+    }
+    text(name);
+}
+
 // Prints a space and n in decimal.
 pub fn number(n: u64) {
     text(b" ");

@@ -1,5 +1,5 @@
-// Document 01's steps, the fourth as card 6 of 02 has it and the fifth as card 5 does, on lists of at most four jobs and eight slots, by trying every set of slots and
-// every placement. Test code: it is held against the planner, and shares no function with it.
+// Document 01's steps from either start, by card 10 of 02, the fourth as card 6 has it and the fifth as cards 5 and 10 do, on lists of at most four
+// jobs and eight slots, by trying every set of slots and every placement. Test code: it is held against the planner, and shares no function with it.
 // What a function yields is said above it and tested by `test_plans`; it is proved only where its contract has an equation.
 ghost use Rattle.test_exhaustive.specs.Bounds.{Bounded};
 
@@ -17,8 +17,8 @@ pub use small::Small;
 pub use small::digit;
 pub use small::volume;
 
-// A list's outcome by document 01 with cards 5 and 6: overloaded with the interval shown, a and b, or planned with energy, awake slots, runs, added and the
-// table. What does not apply is 0.
+// A list's outcome by document 01 with cards 5, 6 and 10: overloaded with the interval shown, a and b, or planned with energy, awake slots, runs,
+// added and the table. What does not apply is 0.
 pub struct Solved {
     pub overloaded: bool,
     pub a: u32,
@@ -31,8 +31,8 @@ pub struct Solved {
     pub table: u64,
 }
 
-// The outcome of steps 1 to 5 of 01, with cards 5 and 6. `added` is what step 3 woke, the other figures are those of the set that step 5 leaves awake.
-// The contract only bounds the figures; that they are right is what the comparison tests.
+// The outcome of steps 1 to 5 of 01, with cards 5, 6 and 10. `added` is what step 3 woke, the other figures are those of the set that step 5 leaves
+// awake. The contract only bounds the figures; that they are right is what the comparison tests.
 pub fn solve(l: Small) -> Solved
     ensures { λ r. ⌜ Bounded r ⌝ }
 {
@@ -52,7 +52,7 @@ pub fn solve(l: Small) -> Solved
     let extended = steps::extend(l, sets::least_skeleton(l));
     let filled = steps::fill(l, extended.set);
     let set = sleep::awake(l, filled);
-    let cost = sets::cost_of(l.q, set);
+    let cost = sets::cost_of(l.q, l.start, set);
     Solved {
         overloaded: false,
         a: 0,

@@ -1,4 +1,4 @@
-// The least energy over every feasible table.
+// The least energy over every feasible table, from the list's start.
 use crate::placement::after;
 use crate::placement::can_run;
 use crate::small::Small;
@@ -14,30 +14,36 @@ fn lesser(a: u32, b: u32) -> u32
     if a < b { a } else { b }
 }
 
-// What an awake slot costs: 1, and q more if no awake slot follows it, for here a run is paid in its last slot.
+// What is paid behind a slot or the start: q if it is asleep and an awake slot follows, else 0. So a run is paid in front of its first slot.
 // The bound is for safety, so that energies can be added.
-fn awake_slot(q: u16, later_awake: bool) -> u32
-    ensures { λ r. ⌜ r ≤ 65536 ⌝ }
+fn paid(q: u16, awake: bool, later_awake: bool) -> u32
+    ensures { λ r. ⌜ r ≤ 65535 ⌝ }
 {
-    if later_awake { 1 } else { 1 + q as u32 }
+    if awake || !later_awake {
+        return 0;
+    }
+    q as u32
 }
 
-// The least energy of the slots below `slots` over all ways to complete a feasible table whose later part leaves the units `left`
-// and begins with an awake slot or not; NONE or more if there is no way. Slot `slots - 1` holds 254, 255 or one of the jobs below `jobs`,
-// every earlier slot 254, 255 or any job. The bound is for safety, so that a slot's cost can be added.
+// The least energy of the slots below `slots`, with what is paid behind each of them and the start, over all ways to complete a feasible table
+// whose later part leaves the units `left` and begins with an awake slot or not; NONE or more if there is no way. Slot `slots - 1` holds 254, 255
+// or one of the jobs below `jobs`, every earlier slot 254, 255 or any job. The bound is for safety, so that a slot's cost can be added.
 fn least(l: Small, left: u32, slots: u32, jobs: u32, later_awake: bool) -> u32
     requires { ⌜ (jobs ≤ 4) × (slots ≤ 8) ⌝ }
     ensures { λ r. ⌜ r ≤ 1000000 + 65536 * slots ⌝ }
 {
     if slots == 0 {
-        return if left == 0 { 0 } else { NONE };
+        return if left == 0 {
+            paid(l.q, l.start, later_awake)
+        } else {
+            NONE
+        };
     }
     let t = slots - 1;
-    let here = awake_slot(l.q, later_awake);
     if jobs == 0 {
         return lesser(
-            least(l, left, t, 4, false),
-            here + least(l, left, t, 4, true),
+            paid(l.q, false, later_awake) + least(l, left, t, 4, false),
+            1 + least(l, left, t, 4, true),
         );
     }
     let j = jobs - 1;
@@ -45,7 +51,7 @@ fn least(l: Small, left: u32, slots: u32, jobs: u32, later_awake: bool) -> u32
     if !can_run(l, 255, left, j, t) {
         return without;
     }
-    lesser(without, here + least(l, after(left, j), t, 4, true))
+    lesser(without, 1 + least(l, after(left, j), t, 4, true))
 }
 
 // The least energy of a feasible table, or NONE or more where no table is feasible. The contract only bounds it.

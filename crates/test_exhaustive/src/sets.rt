@@ -4,14 +4,14 @@ use crate::small::bit;
 use crate::small::digit;
 ghost use Prim.Native.Nat.{_<_, _≤_};
 
-// The energy of a set, its number of slots, and its number of runs.
+// The energy of a set from a start, its number of slots, and its number of runs.
 pub struct Cost {
     pub energy: u32,
     pub awake: u32,
     pub runs: u32,
 }
 
-// 1 where slot t is in the set and the one before it is not, else 0: a run begins. Before slot 0 the processor sleeps.
+// 1 where slot t is in the set and the one before it is not, else 0: a run begins. There is none before slot 0, for the start is no slot.
 // The bound is for safety, so that eight of them can be added.
 fn starts(set: u32, t: u32) -> u32
     ensures { λ r. ⌜ r < 2 ⌝ }
@@ -22,25 +22,31 @@ fn starts(set: u32, t: u32) -> u32
     bit(set, t)
 }
 
-// What slot t adds to the energy: 0 asleep, 1 + q where a run begins, else 1. The bound is for safety, so that eight of them can be added.
-fn spent(q: u16, set: u32, t: u32) -> u32
+// Whether the processor wakes for slot t: a run begins there, and not at slot 0 from a start awake.
+fn wakes(start: bool, set: u32, t: u32) -> bool {
+    starts(set, t) == 1 && (0 < t || !start)
+}
+
+// What slot t adds to the energy: 0 asleep, 1 + q where the processor wakes for it, else 1. The bound is for safety, so that eight of them can be
+// added.
+fn spent(q: u16, start: bool, set: u32, t: u32) -> u32
     ensures { λ r. ⌜ r ≤ 65536 ⌝ }
 {
-    if starts(set, t) == 1 {
+    if wakes(start, set, t) {
         return 1 + q as u32;
     }
     bit(set, t)
 }
 
-// What the slots below 8 of a set cost. The contract only bounds the figures.
-pub fn cost_of(q: u16, set: u32) -> Cost
+// What the slots below 8 of a set cost from this start. The contract only bounds the figures.
+pub fn cost_of(q: u16, start: bool, set: u32) -> Cost
     ensures { λ r. ⌜ (r .energy ≤ 524288) × (r .awake ≤ 8) × (r .runs ≤ 8) ⌝ }
 {
     let mut energy = 0;
     let mut awake = 0;
     let mut runs = 0;
     for t in 0..8 {
-        energy += spent(q, set, t);
+        energy += spent(q, start, set, t);
         awake += bit(set, t);
         runs += starts(set, t);
     }
@@ -82,9 +88,9 @@ fn precedes(x: u32, y: u32) -> bool {
 }
 
 // Whether x costs less than y, or as much and is asleep in the first slot in which they differ.
-fn better(q: u16, x: u32, y: u32) -> bool {
-    let a = cost_of(q, x);
-    let b = cost_of(q, y);
+fn better(q: u16, start: bool, x: u32, y: u32) -> bool {
+    let a = cost_of(q, start, x);
+    let b = cost_of(q, start, y);
     a.energy < b.energy || a.energy == b.energy && precedes(x, y)
 }
 
@@ -94,7 +100,7 @@ pub fn least_skeleton(l: Small) -> u32 {
     let all = 255 >> (8 - l.h % 9);
     let mut best = all;
     for set in 0..256 {
-        if set <= all && is_skeleton(l, set) && better(l.q, set, best) {
+        if set <= all && is_skeleton(l, set) && better(l.q, l.start, set, best) {
             best = set;
         }
     }

@@ -1,6 +1,7 @@
-// Step 5, as card 5 of document 02 has it, by trying every set of slots that holds the working ones. A stretch between two working slots
-// costs its length if it is awake, q if it sleeps, and more than q if only a part of it is awake; an awake slot outside always costs. So of all
-// these sets the card's is the cheapest, and where a stretch has just q slots, the one of the cheapest with the fewest slots.
+// Step 5, as cards 5 and 10 of document 02 have it, by trying every set of slots that holds the working ones. A stretch between two working slots,
+// or between a start awake and the first one, costs its length if it is awake, q if it sleeps, and more than q if only a part of it is awake; an
+// awake slot outside always costs. So of all these sets the cards' is the cheapest, and where a stretch has just q slots, the one of the cheapest
+// with the fewest slots.
 use crate::sets::cost_of;
 use crate::small::Small;
 use crate::small::bit;
@@ -26,15 +27,15 @@ fn working(table: u64) -> u32 {
 }
 
 // Whether x costs less than y, or as much and has fewer slots.
-fn better(q: u16, x: u32, y: u32) -> bool {
-    let a = cost_of(q, x);
-    let b = cost_of(q, y);
+fn better(q: u16, start: bool, x: u32, y: u32) -> bool {
+    let a = cost_of(q, start, x);
+    let b = cost_of(q, start, y);
     a.energy < b.energy || a.energy == b.energy && a.awake < b.awake
 }
 
 // The set if it holds the working slots and is better than the best one so far; else that one.
-fn best_of(q: u16, work: u32, set: u32, best: u32) -> u32 {
-    if set | work == set && better(q, set, best) {
+fn best_of(q: u16, start: bool, work: u32, set: u32, best: u32) -> u32 {
+    if set | work == set && better(q, start, set, best) {
         return set;
     }
     best
@@ -48,7 +49,7 @@ pub fn awake(l: Small, table: u64) -> u32 {
     let mut best = all;
     for set in 0..256 {
         if set <= all {
-            best = best_of(l.q, work, set, best);
+            best = best_of(l.q, l.start, work, set, best);
         }
     }
     best

@@ -9,6 +9,8 @@ ghost use Rattle.test_exhaustive.specs.Digits.{digitOf};
 pub struct Small {
     pub h: u32,
     pub q: u16,
+    // Whether the processor is awake before slot 0.
+    pub start: bool,
     pub n: u32,
     pub r: u32,
     pub d: u32,

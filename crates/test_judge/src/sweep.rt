@@ -2,7 +2,6 @@
 ghost use Prim.Native.Nat.{_<_};
 use super::small;
 use super::tally;
-use libc::STDOUT_FILENO;
 use test_bytes::first_entries;
 use test_bytes::number;
 use test_faults::Job;
@@ -10,6 +9,7 @@ use test_faults::Job;
 // The digest with the answers for all tables of h slots, with wake cost 3; counts them.
 fn tables(
     sum: u64,
+    start: bool,
     h: u16,
     releases: &[u16],
     deadlines: &[u16],
@@ -21,7 +21,7 @@ fn tables(
     let mut code = 0;
     while code < end {
         let table = small::table(code);
-        let answer = judge::judge(h, 3, releases, deadlines, volumes, &table);
+        let answer = judge::judge(h, 3, start, releases, deadlines, volumes, &table);
         all = tally::note(all, answer, counts);
         code += 1;
     }
@@ -29,12 +29,21 @@ fn tables(
 }
 
 // So for the first n of two jobs.
-fn list(sum: u64, h: u16, n: usize, first: Job, second: Job, counts: &mut [u64]) -> u64 {
+fn list(
+    sum: u64,
+    start: bool,
+    h: u16,
+    n: usize,
+    first: Job,
+    second: Job,
+    counts: &mut [u64],
+) -> u64 {
     let releases = [first.r, second.r];
     let deadlines = [first.d, second.d];
     let volumes = [first.p, second.p];
     tables(
         sum,
+        start,
         h,
         first_entries(&releases, n),
         first_entries(&deadlines, n),
@@ -49,50 +58,50 @@ fn choices(h: u16, has: bool) -> usize {
 }
 
 // So for all lists of n jobs with this first job.
-fn seconds(sum: u64, h: u16, n: usize, first: Job, counts: &mut [u64]) -> u64
+fn seconds(sum: u64, start: bool, h: u16, n: usize, first: Job, counts: &mut [u64]) -> u64
     requires { ⌜ 0 < h ⌝ }
 {
     let end = choices(h, 1 < n);
     let mut all = sum;
     let mut k = 0;
     while k < end {
-        all = list(all, h, n, first, small::job(h as usize, k), counts);
+        all = list(all, start, h, n, first, small::job(h as usize, k), counts);
         k += 1;
     }
     all
 }
 
 // So for all lists of n jobs.
-fn firsts(h: u16, n: usize, counts: &mut [u64]) -> u64
+fn firsts(start: bool, h: u16, n: usize, counts: &mut [u64]) -> u64
     requires { ⌜ 0 < h ⌝ }
 {
     let end = choices(h, 0 < n);
     let mut all = 0;
     let mut k = 0;
     while k < end {
-        all = seconds(all, h, n, small::job(h as usize, k), counts);
+        all = seconds(all, start, h, n, small::job(h as usize, k), counts);
         k += 1;
     }
     all
 }
 
-// Prints a line: `all`, h, n, and what `tally::show` prints.
-fn line(h: u16, n: usize)
+// Prints a line named `all`: h, n, and what `tally::show` prints.
+fn line(start: bool, h: u16, n: usize)
     requires { ⌜ 0 < h ⌝ }
 {
     let mut counts = [0u64; 28];
-    io::write_all(STDOUT_FILENO, b"all");
+    test_bytes::begin(start, b"all");
     number(h as u64);
     number(n as u64);
-    let sum = firsts(h, n, &mut counts);
+    let sum = firsts(start, h, n, &mut counts);
     tally::show(&counts, sum);
 }
 
 // So for lists of no, one and two jobs.
-pub fn each(h: u16)
+pub fn each(start: bool, h: u16)
     requires { ⌜ 0 < h ⌝ }
 {
-    line(h, 0);
-    line(h, 1);
-    line(h, 2);
+    line(start, h, 0);
+    line(start, h, 1);
+    line(start, h, 2);
 }

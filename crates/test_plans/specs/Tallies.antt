@@ -10,3 +10,4 @@ pub record Sum (a b s : Tally) : Type 0 where
   pub differing : s .differing ≡ (a .differing + b .differing) % 2 ^ 64
   pub energy : s .energy ≡ (a .energy + b .energy) % 2 ^ 64
   pub added : s .added ≡ (a .added + b .added) % 2 ^ 64
+  pub rival : s .rival ≡ (a .rival + b .rival) % 2 ^ 64

@@ -12,13 +12,14 @@ use test_exhaustive::Solved;
 use test_exhaustive::digit;
 
 // Counts over some lists: all of them, those that the search finds overloaded, those on which planner and search differ; and the sums of the
-// search's energy and added over those that are not overloaded.
+// search's energy and added, and of the least energy that a rival can have, over those that are not overloaded.
 pub struct Tally {
     pub lists: u64,
     pub overloaded: u64,
     pub differing: u64,
     pub energy: u64,
     pub added: u64,
+    pub rival: u64,
 }
 
 // The two tallies added, each field modulo 2^64, which no sweep comes near.
@@ -31,6 +32,7 @@ pub fn plus(a: Tally, b: Tally) -> Tally
         differing: std::num::wrapping_add_u64(a.differing, b.differing),
         energy: std::num::wrapping_add_u64(a.energy, b.energy),
         added: std::num::wrapping_add_u64(a.added, b.added),
+        rival: std::num::wrapping_add_u64(a.rival, b.rival),
     }
 }
 
@@ -52,11 +54,10 @@ fn same_table(h: u32, want: u64, table: &[u8]) -> bool {
     true
 }
 
-// Whether the planner's outcome is the search's. Planned: the same four figures, the same table with the bytes behind h kept, and an energy of
-// at most that of the cheapest feasible table, which exists, plus the sum of volumes. Overloaded: the same interval, no feasible table
-// exists, and the whole table is kept. Refused: never.
-fn agrees(l: Small, want: Solved, outcome: Outcome, table: &[u8]) -> bool {
-    let least = test_exhaustive::least_energy(l);
+// Whether the planner's outcome is the search's, where `least` is the least energy of a feasible table. Planned: the same four figures, the same
+// table with the bytes behind h kept, and an energy of at most that of the cheapest feasible table from the same start, which exists, plus the sum of
+// volumes. Overloaded: the same interval, no feasible table exists, and the whole table is kept. Refused: never.
+fn agrees(l: Small, want: Solved, least: u32, outcome: Outcome, table: &[u8]) -> bool {
     match outcome {
         Outcome::Planned(f) => {
             !want.overloaded
@@ -101,6 +102,7 @@ fn planned(l: Small, table: &mut [u8]) -> Outcome {
     planner::plan(
         (l.h % 9) as u16,
         l.q,
+        l.start,
         &releases[..n],
         &deadlines[..n],
         &volumes[..n],
@@ -111,9 +113,10 @@ fn planned(l: Small, table: &mut [u8]) -> Outcome {
 // The tally of this one list: `differing` is 0 where planner and search agree on a lent table of 16 bytes, else 1.
 pub fn compare(l: Small) -> Tally {
     let want = test_exhaustive::solve(l);
+    let least = test_exhaustive::least_energy(l);
     let mut table = [MARK; 16];
     let outcome = planned(l, &mut table);
-    let differing = if agrees(l, want, outcome, &table) {
+    let differing = if agrees(l, want, least, outcome, &table) {
         0
     } else {
         1
@@ -125,6 +128,7 @@ pub fn compare(l: Small) -> Tally {
             differing,
             energy: 0,
             added: 0,
+            rival: 0,
         };
     }
     Tally {
@@ -133,5 +137,6 @@ pub fn compare(l: Small) -> Tally {
         differing,
         energy: want.energy as u64,
         added: want.added as u64,
+        rival: least as u64,
     }
 }

@@ -26,10 +26,10 @@ fn modulo(x: u32, m: u32) -> u32
     x % m
 }
 
-// List number `code` of those with n jobs (at most four), a horizon of at most m and volumes of at most m, where m is at most 8. The number
-// has a digit a field, the lowest first: horizon less 1 (of m values), the wake cost (of five), then for each job release, deadline less 1
+// List number `code` of those with this start, n jobs (at most four), a horizon of at most m and volumes of at most m, where m is at most 8. The
+// number has a digit a field, the lowest first: horizon less 1 (of m values), the wake cost (of five), then for each job release, deadline less 1
 // and volume less 1 (of m values each). Some do not pass the list checks: see `valid`.
-pub fn listed(n: u32, m: u32, code: u32) -> Small
+pub fn listed(n: u32, m: u32, code: u32, start: bool) -> Small
     requires { ⌜ 0 < m ⌝ }
 {
     let mut rest = code / m / 5;
@@ -47,6 +47,7 @@ pub fn listed(n: u32, m: u32, code: u32) -> Small
     Small {
         h: modulo(code, m) + 1,
         q: wake_cost(code / m),
+        start,
         n,
         r,
         d,
@@ -100,8 +101,9 @@ pub struct Draw {
     pub seed: u64,
 }
 
-// A list that passes the list checks, of one to four jobs, five to eight slots and volumes of at most three. Equal seeds give equal lists.
-pub fn drawn(seed: u64) -> Draw {
+// A list with this start that passes the list checks, of one to four jobs, five to eight slots and volumes of at most three. Equal seeds give
+// equal lists, but for the start.
+pub fn drawn(seed: u64, start: bool) -> Draw {
     let h_seed = next(seed);
     let q_seed = next(h_seed);
     let n_seed = next(q_seed);
@@ -126,6 +128,7 @@ pub fn drawn(seed: u64) -> Draw {
         list: Small {
             h,
             q: wake_cost(below(q_seed, 5)),
+            start,
             n,
             r,
             d,

@@ -7,11 +7,13 @@ use crate::kept::MARK;
 use crate::kept::kept;
 use sched::Outcome;
 use sched::PlanFigures;
+use test_bytes::begin;
 
 // Lists of these lengths, and a table of `room` bytes. Every job is (0, h, 1), but jobs `one` and
-// `other` are (r, d, p). The wake cost is 1.
+// `other` are (r, d, p). The wake cost is 1, and `start` says whether the processor is awake before slot 0.
 struct Trial {
     h: u16,
+    start: bool,
     releases: usize,
     deadlines: usize,
     volumes: usize,
@@ -23,10 +25,11 @@ struct Trial {
     room: usize,
 }
 
-// n jobs (0, h, 1) and a table that is long enough.
+// n jobs (0, h, 1) from a start asleep, and a table that is long enough.
 fn plain(h: u16, n: usize) -> Trial {
     Trial {
         h,
+        start: false,
         releases: n,
         deadlines: n,
         volumes: n,
@@ -37,6 +40,13 @@ fn plain(h: u16, n: usize) -> Trial {
         p: 1,
         room: 4100,
     }
+}
+
+// The same from this start.
+fn with_start(t: Trial, start: bool) -> Trial {
+    let mut next = t;
+    next.start = start;
+    next
 }
 
 // The same with (r, d, p) for the jobs `one` and `other`.
@@ -128,6 +138,7 @@ fn planned(t: Trial, table: &mut [u8]) -> Outcome {
     planner::plan(
         t.h,
         1,
+        t.start,
         &releases[..nr],
         &deadlines[..nd],
         &volumes[..np],
@@ -142,13 +153,13 @@ fn marked() -> [u8; 4100]
     [MARK; 4100]
 }
 
-// Prints a line: the name, the outcome of the trial with the first `room` bytes (at most 4,100) lent as table, and `kept` if all bytes that
-// must stay have stayed, else `changed`.
-fn tried(name: &[u8], t: Trial) {
-    io::write_all(1, name);
+// Prints a line: the name by `begin`, the outcome of the trial from this start with the first `room` bytes (at most 4,100) lent as table, and
+// `kept` if all bytes that must stay have stayed, else `changed`.
+fn tried(start: bool, name: &[u8], t: Trial) {
+    begin(start, name);
     let mut table = marked();
     let room = t.room % 4101;
-    let outcome = planned(t, &mut table[..room]);
+    let outcome = planned(with_start(t, start), &mut table[..room]);
     let from = show(t.h, outcome);
     if kept(&table, from) {
         io::write_all(1, b" kept\n");
@@ -157,52 +168,60 @@ fn tried(name: &[u8], t: Trial) {
     }
 }
 
-// The worked cases of document 01 that are not proved, each printed by `tried`.
-pub fn worked() {
-    tried(b"H 4096:", plain(4096, 1));
-    tried(b"H 4097:", plain(4097, 1));
-    tried(b"64 jobs:", plain(4096, 64));
-    tried(b"65 jobs:", plain(4096, 65));
-    tried(b"(4,4,1):", single(4, 4, 1));
-    tried(b"(3,4,1):", single(3, 4, 1));
-    tried(b"(0,4,0):", single(0, 4, 0));
-    tried(b"(4,4,0):", single(4, 4, 0));
-    tried(b"(9,9,0):", single(9, 9, 0));
-    tried(b"d = H:", single(0, 8, 1));
-    tried(b"d = H + 1:", single(0, 9, 1));
+// The worked cases of document 01 that are not proved, from this start, each printed by `tried`.
+pub fn worked(start: bool) {
+    tried(start, b"H 4096:", plain(4096, 1));
+    tried(start, b"H 4097:", plain(4097, 1));
+    tried(start, b"64 jobs:", plain(4096, 64));
+    tried(start, b"65 jobs:", plain(4096, 65));
+    tried(start, b"(4,4,1):", single(4, 4, 1));
+    tried(start, b"(3,4,1):", single(3, 4, 1));
+    tried(start, b"(0,4,0):", single(0, 4, 0));
+    tried(start, b"(4,4,0):", single(4, 4, 0));
+    tried(start, b"(9,9,0):", single(9, 9, 0));
+    tried(start, b"d = H:", single(0, 8, 1));
+    tried(start, b"d = H + 1:", single(0, 9, 1));
 }
 
-// Each refusal by itself, and what is next to it, printed so.
-pub fn refused() {
-    tried(b"H 0:", plain(0, 0));
-    tried(b"H 1, no jobs:", plain(1, 0));
-    tried(b"H 65535:", plain(65535, 1));
-    tried(b"a deadline less:", with_lengths(plain(8, 2), 2, 1, 2));
-    tried(b"a volume more:", with_lengths(plain(8, 2), 2, 2, 3));
+// Each refusal by itself, and what is next to it, from this start, printed so.
+pub fn refused(start: bool) {
+    tried(start, b"H 0:", plain(0, 0));
+    tried(start, b"H 1, no jobs:", plain(1, 0));
+    tried(start, b"H 65535:", plain(65535, 1));
     tried(
+        start,
+        b"a deadline less:",
+        with_lengths(plain(8, 2), 2, 1, 2),
+    );
+    tried(start, b"a volume more:", with_lengths(plain(8, 2), 2, 2, 3));
+    tried(
+        start,
         b"first job faulty:",
         with_odd(plain(4096, 64), 0, 0, 9, 8, 1),
     );
     tried(
+        start,
         b"last job faulty:",
         with_odd(plain(4096, 64), 63, 63, 0, 4096, 0),
     );
     tried(
+        start,
         b"two jobs faulty:",
         with_odd(plain(4096, 64), 41, 17, 0, 4097, 1),
     );
-    tried(b"table of H - 1:", with_room(plain(8, 2), 7));
-    tried(b"table of H:", with_room(plain(8, 2), 8));
-    tried(b"overload:", single(2, 5, 4));
+    tried(start, b"table of H - 1:", with_room(plain(8, 2), 7));
+    tried(start, b"table of H:", with_room(plain(8, 2), 8));
+    tried(start, b"overload:", single(2, 5, 4));
 }
 
-// The k-th faulty job at place j of 64, with no table, so that 17 would come next; printed so behind `fault`, k and j.
+// The k-th faulty job at place j of 64, with no table, so that 17 would come next, from a start asleep; printed so behind `fault`, k and j.
 fn faulty(k: usize, j: usize) {
     let job = test_faults::nth(k);
     io::write_all(1, b"fault");
     number(k as u64);
     number(j as u64);
     tried(
+        false,
         b":",
         with_room(with_odd(plain(4096, 64), j, j, job.r, job.d, job.p), 0),
     );
@@ -226,22 +245,35 @@ pub fn faults() {
     at_three_places(6);
 }
 
-// Lists with several faults, of which the first in the order is told, printed so.
-pub fn ordered() {
+// Lists with several faults from this start, of which the first in the order is told, printed so.
+pub fn ordered(start: bool) {
     let faulty = with_odd(plain(8, 65), 0, 0, 4, 4, 1);
     let unequal = with_room(with_lengths(faulty, 65, 65, 64), 0);
     let mut all = unequal;
     all.h = 0;
-    tried(b"12 before 19:", all);
-    tried(b"19 before 12:", unequal);
-    tried(b"12 before 15:", with_room(faulty, 0));
+    tried(start, b"12 before 19:", all);
+    tried(start, b"19 before 12:", unequal);
+    tried(start, b"12 before 15:", with_room(faulty, 0));
     tried(
+        start,
         b"26 before 17:",
         with_room(with_odd(plain(1, 3), 2, 2, 0, 1, 0), 0),
     );
-    tried(b"26 before 18:", with_odd(plain(1, 3), 2, 2, 0, 1, 0));
-    tried(b"25 before 18:", with_odd(plain(1, 3), 2, 2, 0, 2, 1));
-    tried(b"15 before 18:", with_odd(plain(1, 3), 2, 2, 1, 1, 1));
-    tried(b"17 before 18:", with_room(plain(1, 3), 0));
-    tried(b"18 alone:", plain(1, 3));
+    tried(
+        start,
+        b"26 before 18:",
+        with_odd(plain(1, 3), 2, 2, 0, 1, 0),
+    );
+    tried(
+        start,
+        b"25 before 18:",
+        with_odd(plain(1, 3), 2, 2, 0, 2, 1),
+    );
+    tried(
+        start,
+        b"15 before 18:",
+        with_odd(plain(1, 3), 2, 2, 1, 1, 1),
+    );
+    tried(start, b"17 before 18:", with_room(plain(1, 3), 0));
+    tried(start, b"18 alone:", plain(1, 3));
 }

@@ -62,44 +62,45 @@ fn noted(t: Tally, n: usize, q: u16) -> Tally {
 }
 
 // Draws the bytes of a table, and puts it under the rule.
-fn settle(last: Tally, q: u16, state: u64, table: &mut [u8]) -> Drawn {
+fn settle(last: Tally, q: u16, start: bool, state: u64, table: &mut [u8]) -> Drawn {
     let share = next(state);
     let end = letters(share, share / 65536 % 30 + 1, table);
     let before = noted(last, table.len(), q);
     Drawn {
         state: end,
-        tally: tally::settle(before, q, table),
+        tally: tally::settle(before, q, start, table),
     }
 }
 
 // So with up to 4,096 slots and a wake cost below 40, which are drawn first.
-fn draw(last: Drawn) -> Drawn {
+fn draw(start: bool, last: Drawn) -> Drawn {
     let mut store = [0u8; 4096];
     let size = next(last.state);
     let cost = next(size);
     let n = (size / 65536 % 4097) as usize;
     let before = last.tally;
-    settle(before, (cost / 65536 % 40) as u16, cost, &mut store[..n])
+    let q = (cost / 65536 % 40) as u16;
+    settle(before, q, start, cost, &mut store[..n])
 }
 
-// The tally of so many tables.
-fn draws(n: u64) -> Tally {
+// The tally of so many tables, which are the same from each start.
+fn draws(start: bool, n: u64) -> Tally {
     let mut d = Drawn {
         state: 1,
         tally: tally::nothing(),
     };
     let mut i = 0;
     while i < n {
-        d = draw(d);
+        d = draw(start, d);
         i += 1;
     }
     d.tally
 }
 
-// Prints a line: `random`, how many tables were drawn, and their tally.
-pub fn all() {
-    let sum = draws(300);
-    test_bytes::text(b"random");
+// Prints a line named `random`: how many tables were drawn, and their tally.
+pub fn all(start: bool) {
+    let sum = draws(start, 300);
+    test_bytes::begin(start, b"random");
     number(300);
     tally::show(sum);
 }

@@ -36,33 +36,33 @@ fn spell(code: usize, table: &mut [u8]) {
 }
 
 // The tally with this table, whose slots are lent.
-fn settle(last: Tally, q: u16, code: usize, table: &mut [u8]) -> Tally {
+fn settle(last: Tally, q: u16, start: bool, code: usize, table: &mut [u8]) -> Tally {
     spell(code, table);
-    tally::settle(last, q, table)
+    tally::settle(last, q, start, table)
 }
 
 // So with n slots; n is at most 7.
-fn one(last: Tally, q: u16, n: usize, code: usize) -> Tally {
+fn one(last: Tally, q: u16, start: bool, n: usize, code: usize) -> Tally {
     let mut store = [0u8; 7];
     let size = n % 8;
-    settle(last, q, code, &mut store[..size])
+    settle(last, q, start, code, &mut store[..size])
 }
 
 // The tally of the first `end` tables of n slots.
-fn all(q: u16, n: usize, end: usize) -> Tally {
+fn all(q: u16, start: bool, n: usize, end: usize) -> Tally {
     let mut sum = tally::nothing();
     let mut code = 0;
     while code < end {
-        sum = one(sum, q, n, code);
+        sum = one(sum, q, start, n, code);
         code += 1;
     }
     sum
 }
 
-// Prints a line: `slots` and n, the wake cost, how many tables there are, and their tally.
-fn line(n: usize, end: usize, q: u16) {
-    let sum = all(q, n, end);
-    test_bytes::text(b"slots");
+// Prints a line named `slots`: n, the wake cost, how many tables there are, and their tally.
+fn line(n: usize, end: usize, q: u16, start: bool) {
+    let sum = all(q, start, n, end);
+    test_bytes::begin(start, b"slots");
     number(n as u64);
     number(q as u64);
     number(end as u64);
@@ -70,20 +70,20 @@ fn line(n: usize, end: usize, q: u16) {
 }
 
 // So for each wake cost up to 8, which is more than any stretch here has slots.
-fn each_cost(n: usize, end: usize) {
+fn each_cost(start: bool, n: usize, end: usize) {
     let mut q = 0;
     while q < 9 {
-        line(n, end, q);
+        line(n, end, q, start);
         q += 1;
     }
 }
 
 // So for each number of slots up to 7. There are 5^n tables of n slots; the remainder changes nothing, it only bounds `end`.
-pub fn each() {
+pub fn each(start: bool) {
     let mut end = 1;
     let mut n = 0;
     while n < 8 {
-        each_cost(n, end);
+        each_cost(start, n, end);
         end = end % 1000000 * 5;
         n += 1;
     }

@@ -1,4 +1,5 @@
-// One stretch between two working slots, with as many slots before and behind; the wake cost is one below, at and one above its length.
+// One stretch between two working slots, with as many slots before and behind; the wake cost is one below, at and one above its length. From
+// a start awake the slots before it are such a stretch, too.
 ghost use mathlib.Core.Path.{_≡_};
 ghost use Prim.Native.Nat.{_+_, _*_, _<_, _≤_};
 use super::tally::holding;
@@ -44,13 +45,13 @@ fn show(g: usize, table: &[u8])
     number(holding(table, 2 * g + 2, 3 * g + 2, 254));
 }
 
-// Prints a line: `stretch`, its length, the wake cost, and what `show` prints after the rule, with the table lent.
-fn settle(g: usize, q: u16, table: &mut [u8])
+// Prints a line named `stretch`: its length, the wake cost, and what `show` prints after the rule, with the table lent.
+fn settle(g: usize, q: u16, start: bool, table: &mut [u8])
     requires { ⌜ g ≤ 65536 ⌝ }
 {
     lay(g, table);
-    step5_sleep::sleep(q, table);
-    test_bytes::text(b"stretch");
+    step5_sleep::sleep(q, start, table);
+    test_bytes::begin(start, b"stretch");
     number(g as u64);
     number(q as u64);
     show(g, table);
@@ -58,16 +59,16 @@ fn settle(g: usize, q: u16, table: &mut [u8])
 }
 
 // So with a table of just so many slots.
-fn line(g: usize, q: u16)
+fn line(g: usize, q: u16, start: bool)
     requires { ⌜ g ≤ 65536 ⌝ }
 {
     let mut store = [0u8; 196610];
     let size = 3 * g + 2;
-    settle(g, q, &mut store[..size]);
+    settle(g, q, start, &mut store[..size]);
 }
 
 // So for a wake cost that is given plus 1, so that one below 0 can be given, too; nothing if it is not in 0 to 65,535.
-fn cost(g: usize, more: usize)
+fn cost(start: bool, g: usize, more: usize)
     requires { ⌜ g ≤ 65536 ⌝ }
 {
     if more == 0 {
@@ -76,32 +77,32 @@ fn cost(g: usize, more: usize)
     if 65536 < more {
         return;
     }
-    line(g, (more - 1) as u16);
+    line(g, (more - 1) as u16, start);
 }
 
 // So for the wake costs from one below g to one above.
-fn costs(g: usize)
+fn costs(start: bool, g: usize)
     requires { ⌜ g ≤ 65536 ⌝ }
 {
-    cost(g, g);
-    cost(g, g + 1);
-    cost(g, g + 2);
+    cost(start, g, g);
+    cost(start, g, g + 1);
+    cost(start, g, g + 2);
 }
 
 // So for the shortest stretches, and around 255, the longest of a plan, and the highest wake cost.
-pub fn each() {
-    costs(0);
-    costs(1);
-    costs(2);
-    costs(3);
-    costs(254);
-    costs(255);
-    costs(256);
-    costs(257);
-    costs(4093);
-    costs(4094);
-    costs(65533);
-    costs(65534);
-    costs(65535);
-    costs(65536);
+pub fn each(start: bool) {
+    costs(start, 0);
+    costs(start, 1);
+    costs(start, 2);
+    costs(start, 3);
+    costs(start, 254);
+    costs(start, 255);
+    costs(start, 256);
+    costs(start, 257);
+    costs(start, 4093);
+    costs(start, 4094);
+    costs(start, 65533);
+    costs(start, 65534);
+    costs(start, 65535);
+    costs(start, 65536);
 }

@@ -38,21 +38,21 @@ pub fn holding(table: &[u8], from: usize, end: usize, held: u8) -> u64 {
 }
 
 // The energy of a table of at most 4,096 slots; 0 of a longer one, and there is none here.
-fn energy(q: u16, table: &[u8]) -> u64 {
+fn energy(q: u16, start: bool, table: &[u8]) -> u64 {
     if table.len() <= 4096 {
-        return sched::cost_of(q, table).energy as u64;
+        return sched::cost_of(q, start, table).energy as u64;
     }
     0
 }
 
 // Puts the table under the rule, and tells the tally with this table.
-pub fn settle(last: Tally, q: u16, table: &mut [u8]) -> Tally {
-    step5_sleep::sleep(q, table);
+pub fn settle(last: Tally, q: u16, start: bool, table: &mut [u8]) -> Tally {
+    step5_sleep::sleep(q, start, table);
     let end = table.len();
     Tally {
         idle: std::num::wrapping_add_u64(last.idle, holding(table, 0, end, 254)),
         asleep: std::num::wrapping_add_u64(last.asleep, holding(table, 0, end, 255)),
-        energy: std::num::wrapping_add_u64(last.energy, energy(q, table)),
+        energy: std::num::wrapping_add_u64(last.energy, energy(q, start, table)),
         sum: digest_from(last.sum, table),
     }
 }

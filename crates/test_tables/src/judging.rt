@@ -11,6 +11,7 @@ pub fn jobs(h: u16, q: u16, n: usize, job: Job, k: usize, other: Job, t: &[u8], 
     show::judged(judge::judge(
         h,
         q,
+        false,
         test_bytes::first_entries(&rs, n),
         test_bytes::first_entries(&ds, n),
         test_bytes::first_entries(&ps, n),
@@ -31,6 +32,7 @@ fn lengths(a: usize, b: usize, c: usize, t: &[u8]) {
     show::judged(judge::judge(
         10,
         1,
+        false,
         test_bytes::first_entries(&rs, a),
         test_bytes::first_entries(&ds, b),
         test_bytes::first_entries(&ps, c),

@@ -20,7 +20,7 @@ fn show_plan(
     out: &mut [u8],
     room: usize,
 ) {
-    show::judged(judge::judge(h, q, rs, ds, ps, t));
+    show::judged(judge::judge(h, q, false, rs, ds, ps, t));
     recording::within(h, t, t.len(), out, room);
     test_bytes::bytes(test_bytes::first_bytes(out, room));
 }

@@ -117,7 +117,7 @@ fn on_table(
     volumes: &[u16],
     table: &mut [u8],
 ) -> Tally {
-    let outcome = planner::plan(h, q, releases, deadlines, volumes, table);
+    let outcome = planner::plan(h, q, false, releases, deadlines, volumes, table);
     answered(last, outcome, table)
 }
 

@@ -27,7 +27,7 @@ fn outcome_shown(outcome: Outcome) {
 // Prints two lines: `list` with its number, horizon, wake cost and outcome; and the bytes of the table, which is lent.
 fn show(k: u64, q: u16, releases: &[u16], deadlines: &[u16], volumes: &[u16], table: &mut [u8]) {
     let h = (table.len() % 4097) as u16;
-    let outcome = planner::plan(h, q, releases, deadlines, volumes, table);
+    let outcome = planner::plan(h, q, false, releases, deadlines, volumes, table);
     test_bytes::text(b"list");
     number(k);
     number(h as u64);

@@ -66,7 +66,7 @@ fn overload_on(
     volumes: &[u16],
     table: &mut [u8],
 ) -> u64 {
-    match planner::plan(h, 0, releases, deadlines, volumes, table) {
+    match planner::plan(h, 0, false, releases, deadlines, volumes, table) {
         Outcome::Planned(_) => 0,
         Outcome::Overloaded(_) => 1,
         Outcome::Refused(_) => 0,

@@ -8,7 +8,7 @@ use lib.ListN.{replicate}
 use borrow.Author.Tests.{le-leb, lt-leb}
 use Rattle.sched.specs.Jobs.{Jobs}
 use Rattle.laws_skeleton.specs.Windows.{windowStart, windowEnd}
-use Rattle.laws_skeleton.specs.Runs.{sleepCost, takes, runEnd, endAfter, valueAt, values, runAt, runsOf, firstEnd, runUpTo, runsFromStart, spread}
+use Rattle.laws_skeleton.specs.Runs.{sleepCost, takes, runEnd, endAfter, valueAt, values, runAt, runsOf, firstEnd, runUpTo, spread}
 use Rattle.sched.specs.Runs.{Run}
 
 module _ (J : Jobs) where
@@ -67,11 +67,15 @@ module _ (J : Jobs) where
   unfolding runsOf
   runs-skip s j v js vs l = rw (lt-leb _ _ l, runsOf)
 
-  -- asleep before slot 0 there is no run from before
+  -- the run from before slot 0: asleep before it there is none
 
-  pub runs-asleep : (js vs : List ℕ) → runsFromStart J false js vs ≡ runsOf J 0 js vs
-  unfolding firstEnd runUpTo
-  runs-asleep js vs = refl
+  pub first-none : (js vs : List ℕ) → firstEnd J false js vs ≡ 0
+  unfolding firstEnd
+  first-none js vs = refl
+
+  pub first-some : (js vs : List ℕ) → firstEnd J true js vs ≡ runEnd J js vs 0 0 js
+  unfolding firstEnd
+  first-some js vs = refl
 
 -- the slots of the runs
 

@@ -1,14 +1,13 @@
 -- `plan` meets its contract: an answer before any step, or the steps on the table's first h bytes.
 use mathlib.Core.Path.{_≡_, sym, refl, _∙_}
 use Prim.Native.Nat.{ℕ, _≤_}
-use mathlib.Core.Bool.{false}
 use mathlib.Core.List.{List}
 use mathlib.Core.Option.{none}
 use lib.ListN.{length, length-replicate}
 use native.Mathlib.Omega.{arith}
 use lib.Seq.{length-take-le}
 use denote.Ref.{now}
-use Rattle.sched.specs.Jobs.{Jobs, jobsOf}
+use Rattle.sched.specs.Jobs.{Jobs, jobsFrom}
 use Rattle.sched.specs.Outcomes.{earlyAnswer}
 use Rattle.sched.specs.Outcomes.Laws.{early-open}
 use Rattle.front.specs.Early.Laws.{ended-some, open-none}
@@ -24,7 +23,7 @@ room-left n array few kept = omega (arith, length-replicate {A = ℕ} 64 0)
 
 -- the list, from the start; the start, from where `begin` has answered; and that, from where it left the way open
 abbrev listed : tie.Start → Jobs
-listed s = jobsOf (s .args .h) (s .args .q) (now (s .args .releases)) (now (s .args .deadlines)) (now (s .args .volumes))
+listed s = jobsFrom (s .args .h) (s .args .q) (s .args .start) (now (s .args .releases)) (now (s .args .deadlines)) (now (s .args .volumes))
 
 abbrev start : tie.After-begin → tie.Start
 start c = c .before .before .before .before .before .before .before
@@ -33,7 +32,7 @@ abbrev begun : tie.After-enum-told → tie.After-begin
 begun c = c .before .before .before .before
 
 open-yet : (c : tie.After-enum-told) → earlyAnswer (listed (start (begun c))) (length (now (start (begun c) .args .table))) ≡ none
-open-yet c = open-none _ (sym (c .enum-told .given .1) ∙ begun c .begin .ensures .early _ false .same)
+open-yet c = open-none _ (sym (c .enum-told .given .1) ∙ begun c .begin .ensures .early _ _ .same)
 
 ranks-fit : (c : tie.After-enum-told) → length (now (start (begun c) .args .releases)) ≤ length (begun c .begin .last .1 .1 .1 .1 .1 .0)
 ranks-fit c = room-left _ (begun c .begin .last .1 .1 .1 .1 .1 .0) (early-open _ _ (open-yet c) .0 .few) (begun c .begin .kept .1 .1 .1 .1 .1 .0)
@@ -88,7 +87,7 @@ steps-requires c κs =
 returns : tie.Need-returns
 returns c =
     let answered = c .before .before .before .before .before in
-    answered-early (listed (start answered)) _ refl _ (ended-some _ _ (sym (c .before .outcome .given .1) ∙ answered .begin .ensures .early _ false .same))
+    answered-early (listed (start answered)) _ _ (ended-some _ _ (sym (c .before .outcome .given .1) ∙ answered .begin .ensures .early _ _ .same))
 
 same-length : tie.Need-same-length
 same-length c = search needs
@@ -96,7 +95,7 @@ same-length c = search needs
 returns-2 : tie.Need-returns-2
 returns-2 c =
     let opened = c .before .before .before .before .before .before in
-    steps-planned (listed (start (begun opened))) _ refl _ _ _ (open-yet opened) (c .before .before .steps .ensures) refl
+    steps-planned (listed (start (begun opened))) _ _ _ _ (open-yet opened) (c .before .before .steps .ensures) refl
 
 pub plan-spec : {M : Type 1} → statement M
 plan-spec =

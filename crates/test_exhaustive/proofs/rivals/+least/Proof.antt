@@ -8,8 +8,8 @@ use Rattle.test_exhaustive.proofs.rivals.least.Kinds as least-kinds
 use Rattle.test_exhaustive.proofs.rivals.+least.Lts-least as least-lts
 use Rattle.test_exhaustive.proofs.placement.after.Reads as after-reads
 use Rattle.test_exhaustive.proofs.placement.can_run.Reads as can-run-reads
-use Rattle.test_exhaustive.proofs.rivals.awake_slot.Reads as awake-slot-reads
 use Rattle.test_exhaustive.proofs.rivals.lesser.Reads as lesser-reads
+use Rattle.test_exhaustive.proofs.rivals.paid.Reads as paid-reads
 use Rattle.test_exhaustive.proofs.rivals.+least.{statement}
 use Rattle.test_exhaustive.proofs.rivals.+least.Tie.{close}
 
@@ -24,7 +24,10 @@ least-below t = and 0 least-kinds.ps (falls 0 least-kinds.ps _<_ μ-least t) lea
 
 -- what `least` and its callees ask and give, at the measure t
 abbrev told : ℕ → least-lts.Claims
-told t = (awake-slot-reads.Asked, awake-slot-reads.Learnt, least-below t, least.Post, lesser-reads.Asked, lesser-reads.Learnt, can-run-reads.Asked, can-run-reads.Learnt, after-reads.Asked, after-reads.Learnt)
+told t = (paid-reads.Asked, paid-reads.Learnt, least-below t, least.Post, lesser-reads.Asked, lesser-reads.Learnt, can-run-reads.Asked, can-run-reads.Learnt, after-reads.Asked, after-reads.Learnt)
+
+least-paid-requires : (t : ℕ) → least-lts.Need-paid-requires (told t) (least-at t) least.Post
+least-paid-requires t c κs = search needs
 
 least-returns : (t : ℕ) → least-lts.Need-returns (told t) (least-at t) least.Post
 least-returns t c = search needs
@@ -35,17 +38,20 @@ least-returns-2 t c = search needs
 least-sub-t : (t : ℕ) → least-lts.Need-sub-t (told t) (least-at t) least.Post
 least-sub-t t c = search needs
 
-least-awake-slot-requires : (t : ℕ) → least-lts.Need-awake-slot-requires (told t) (least-at t) least.Post
-least-awake-slot-requires t c κs = search needs
+least-paid-requires-2 : (t : ℕ) → least-lts.Need-paid-requires-2 (told t) (least-at t) least.Post
+least-paid-requires-2 t c κs = search needs
 
 least-least-requires : (t : ℕ) → least-lts.Need-least-requires (told t) (least-at t) least.Post
 least-least-requires t c κs = search needs
 
+least-add-lesser : (t : ℕ) → least-lts.Need-add-lesser (told t) (least-at t) least.Post
+least-add-lesser t c = search needs
+
 least-least-requires-2 : (t : ℕ) → least-lts.Need-least-requires-2 (told t) (least-at t) least.Post
 least-least-requires-2 t c κs = search needs
 
-least-add-lesser : (t : ℕ) → least-lts.Need-add-lesser (told t) (least-at t) least.Post
-least-add-lesser t c = search needs
+least-add-lesser-2 : (t : ℕ) → least-lts.Need-add-lesser-2 (told t) (least-at t) least.Post
+least-add-lesser-2 t c = search needs
 
 least-lesser-requires : (t : ℕ) → least-lts.Need-lesser-requires (told t) (least-at t) least.Post
 least-lesser-requires t c κs = search needs
@@ -71,8 +77,8 @@ least-after-requires t c κs = search needs
 least-least-requires-4 : (t : ℕ) → least-lts.Need-least-requires-4 (told t) (least-at t) least.Post
 least-least-requires-4 t c κs = search needs
 
-least-add-lesser-2 : (t : ℕ) → least-lts.Need-add-lesser-2 (told t) (least-at t) least.Post
-least-add-lesser-2 t c = search needs
+least-add-lesser-3 : (t : ℕ) → least-lts.Need-add-lesser-3 (told t) (least-at t) least.Post
+least-add-lesser-3 t c = search needs
 
 least-lesser-requires-2 : (t : ℕ) → least-lts.Need-lesser-requires-2 (told t) (least-at t) least.Post
 least-lesser-requires-2 t c κs = search needs
@@ -84,13 +90,15 @@ pub +least-spec : {M : Type 1} → statement M
 +least-spec = close μ-least λ t. least-lts.spec (told t)
     (least-at t)
     least.Post
+    (least-paid-requires t)
     (least-returns t)
     (least-returns-2 t)
     (least-sub-t t)
-    (least-awake-slot-requires t)
+    (least-paid-requires-2 t)
     (least-least-requires t)
-    (least-least-requires-2 t)
     (least-add-lesser t)
+    (least-least-requires-2 t)
+    (least-add-lesser-2 t)
     (least-lesser-requires t)
     (least-returns-3 t)
     (least-sub-j t)
@@ -99,6 +107,6 @@ pub +least-spec : {M : Type 1} → statement M
     (least-returns-4 t)
     (least-after-requires t)
     (least-least-requires-4 t)
-    (least-add-lesser-2 t)
+    (least-add-lesser-3 t)
     (least-lesser-requires-2 t)
     (least-returns-5 t)

@@ -5,10 +5,10 @@ use Rattle.test_exhaustive.proofs.sets.cost_of.Statement.{statement}
 use Rattle.test_exhaustive.proofs.sets.cost_of.Tie as tie
 
 abbrev Inv-loop : tie.InvT-loop
-Inv-loop q set energy₀ awake₀ runs₀ t₀ energy awake runs t = (t ≤ 8) × (runs ≤ t) × (awake ≤ t) × (energy ≤ 65536 * t)
+Inv-loop q start set energy₀ awake₀ runs₀ t₀ energy awake runs t = (t ≤ 8) × (runs ≤ t) × (awake ≤ t) × (energy ≤ 65536 * t)
 
 abbrev μ-loop : tie.MeasureT-loop
-μ-loop q set energy₀ awake₀ runs₀ t₀ energy awake runs t = 8 - t
+μ-loop q start set energy₀ awake₀ runs₀ t₀ energy awake runs t = 8 - t
 
 loop-holds : tie.Need-loop-holds Inv-loop μ-loop
 loop-holds c = search needs

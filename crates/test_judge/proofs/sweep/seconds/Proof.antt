@@ -7,10 +7,10 @@ use Rattle.test_judge.proofs.sweep.seconds.Statement.{statement}
 use Rattle.test_judge.proofs.sweep.seconds.Tie as tie
 
 abbrev Inv-loop : tie.InvT-loop
-Inv-loop sum h n first counts₀ end all₀ k₀ counts all k = length counts ≡ length counts₀
+Inv-loop sum start h n first counts₀ end all₀ k₀ counts all k = length counts ≡ length counts₀
 
 abbrev μ-loop : tie.MeasureT-loop
-μ-loop sum h n first counts₀ end all₀ k₀ counts all k = end - k
+μ-loop sum start h n first counts₀ end all₀ k₀ counts all k = end - k
 
 choices-requires : tie.Need-choices-requires Inv-loop μ-loop
 choices-requires c κs = search needs

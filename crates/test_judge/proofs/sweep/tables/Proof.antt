@@ -7,10 +7,10 @@ use Rattle.test_judge.proofs.sweep.tables.Statement.{statement}
 use Rattle.test_judge.proofs.sweep.tables.Tie as tie
 
 abbrev Inv-loop : tie.InvT-loop
-Inv-loop sum h releases deadlines volumes counts₀ end all₀ code₀ counts all code = length counts ≡ length counts₀
+Inv-loop sum start h releases deadlines volumes counts₀ end all₀ code₀ counts all code = length counts ≡ length counts₀
 
 abbrev μ-loop : tie.MeasureT-loop
-μ-loop sum h releases deadlines volumes counts₀ end all₀ code₀ counts all code = end - code
+μ-loop sum start h releases deadlines volumes counts₀ end all₀ code₀ counts all code = end - code
 
 tables-requires : tie.Need-tables-requires Inv-loop μ-loop
 tables-requires c κs = search needs

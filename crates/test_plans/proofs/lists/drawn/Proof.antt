@@ -5,10 +5,10 @@ use Rattle.test_plans.proofs.lists.drawn.Statement.{statement}
 use Rattle.test_plans.proofs.lists.drawn.Tie as tie
 
 abbrev Inv-loop : tie.InvT-loop
-Inv-loop seed h-seed q-seed n-seed h n at₀ r₀ d₀ p₀ j₀ at r d p j = j ≤ 4
+Inv-loop seed start h-seed q-seed n-seed h n at₀ r₀ d₀ p₀ j₀ at r d p j = j ≤ 4
 
 abbrev μ-loop : tie.MeasureT-loop
-μ-loop seed h-seed q-seed n-seed h n at₀ r₀ d₀ p₀ j₀ at r d p j = 4 - j
+μ-loop seed start h-seed q-seed n-seed h n at₀ r₀ d₀ p₀ j₀ at r d p j = 4 - j
 
 next-requires : tie.Need-next-requires Inv-loop μ-loop
 next-requires c κs = search needs

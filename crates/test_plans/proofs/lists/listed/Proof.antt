@@ -5,10 +5,10 @@ use Rattle.test_plans.proofs.lists.listed.Statement.{statement}
 use Rattle.test_plans.proofs.lists.listed.Tie as tie
 
 abbrev Inv-loop : tie.InvT-loop
-Inv-loop n m code rest₀ r₀ d₀ p₀ j₀ rest r d p j = j ≤ 4
+Inv-loop n m code start rest₀ r₀ d₀ p₀ j₀ rest r d p j = j ≤ 4
 
 abbrev μ-loop : tie.MeasureT-loop
-μ-loop n m code rest₀ r₀ d₀ p₀ j₀ rest r d p j = 4 - j
+μ-loop n m code start rest₀ r₀ d₀ p₀ j₀ rest r d p j = 4 - j
 
 div-rest : tie.Need-div-rest Inv-loop μ-loop
 div-rest c = search needs
@@ -70,8 +70,8 @@ loop-again c = search needs
 modulo-requires-4 : tie.Need-modulo-requires-4 Inv-loop μ-loop
 modulo-requires-4 c κs = search needs
 
-add-t18 : tie.Need-add-t18 Inv-loop μ-loop
-add-t18 c = search needs
+add-t19 : tie.Need-add-t19 Inv-loop μ-loop
+add-t19 c = search needs
 
 div-wake-cost : tie.Need-div-wake-cost Inv-loop μ-loop
 div-wake-cost c = search needs
@@ -108,7 +108,7 @@ listed-spec =
     loop-less
     loop-again
     modulo-requires-4
-    add-t18
+    add-t19
     div-wake-cost
     wake-cost-requires
     returns)

@@ -5,11 +5,14 @@ use borrow.Author.Needs.{needs}
 use Rattle.test_plans.proofs.refusals.tried.Statement.{statement}
 use Rattle.test_plans.proofs.refusals.tried.Tie as tie
 
-write-all-requires : tie.Need-write-all-requires
-write-all-requires c κs = search needs
+begin-requires : tie.Need-begin-requires
+begin-requires c κs = search needs
 
 marked-requires : tie.Need-marked-requires
 marked-requires c κs = search needs
+
+with-start-requires : tie.Need-with-start-requires
+with-start-requires c κs = search needs
 
 array-borrow-prefix-table : tie.Need-array-borrow-prefix-table
 array-borrow-prefix-table c = search needs
@@ -33,14 +36,14 @@ kept-requires c κs = search needs
 slice-aggregate-write-all : tie.Need-slice-aggregate-write-all
 slice-aggregate-write-all c = search needs
 
-write-all-requires-2 : tie.Need-write-all-requires-2
-write-all-requires-2 c κs = search needs
+write-all-requires : tie.Need-write-all-requires
+write-all-requires c κs = search needs
 
 slice-aggregate-write-all-2 : tie.Need-slice-aggregate-write-all-2
 slice-aggregate-write-all-2 c = search needs
 
-write-all-requires-3 : tie.Need-write-all-requires-3
-write-all-requires-3 c κs = search needs
+write-all-requires-2 : tie.Need-write-all-requires-2
+write-all-requires-2 c κs = search needs
 
 returns : tie.Need-returns
 returns c = search needs
@@ -52,8 +55,9 @@ pub tried-spec : {M : Type 1} → statement M
 tried-spec =
     tie.close
     (tie.spec
-    write-all-requires
+    begin-requires
     marked-requires
+    with-start-requires
     array-borrow-prefix-table
     slice-aggregate-planned
     planned-requires
@@ -61,8 +65,8 @@ tried-spec =
     slice-aggregate-kept
     kept-requires
     slice-aggregate-write-all
-    write-all-requires-2
+    write-all-requires
     slice-aggregate-write-all-2
-    write-all-requires-3
+    write-all-requires-2
     returns
     returns-2)

@@ -5,10 +5,10 @@ use Rattle.test_plans.proofs.sweep.every.Statement.{statement}
 use Rattle.test_plans.proofs.sweep.every.Tie as tie
 
 abbrev Inv-loop : tie.InvT-loop
-Inv-loop n m end tally₀ code₀ tally code = code ≤ end
+Inv-loop n m end start tally₀ code₀ tally code = code ≤ end
 
 abbrev μ-loop : tie.MeasureT-loop
-μ-loop n m end tally₀ code₀ tally code = end - code
+μ-loop n m end start tally₀ code₀ tally code = end - code
 
 nothing-requires : tie.Need-nothing-requires Inv-loop μ-loop
 nothing-requires c κs = search needs

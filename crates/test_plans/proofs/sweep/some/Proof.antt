@@ -5,10 +5,10 @@ use Rattle.test_plans.proofs.sweep.some.Statement.{statement}
 use Rattle.test_plans.proofs.sweep.some.Tie as tie
 
 abbrev Inv-loop : tie.InvT-loop
-Inv-loop count tally₀ seed₀ i₀ tally seed i = i ≤ count
+Inv-loop count start tally₀ seed₀ i₀ tally seed i = i ≤ count
 
 abbrev μ-loop : tie.MeasureT-loop
-μ-loop count tally₀ seed₀ i₀ tally seed i = count - i
+μ-loop count start tally₀ seed₀ i₀ tally seed i = count - i
 
 nothing-requires : tie.Need-nothing-requires Inv-loop μ-loop
 nothing-requires c κs = search needs

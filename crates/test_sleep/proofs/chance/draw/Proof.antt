@@ -11,8 +11,8 @@ next-requires c κs = search needs
 next-requires-2 : tie.Need-next-requires-2
 next-requires-2 c κs = search needs
 
-cast-settle : tie.Need-cast-settle
-cast-settle c = search needs
+cast-q : tie.Need-cast-q
+cast-q c = search needs
 
 array-borrow-prefix-store : tie.Need-array-borrow-prefix-store
 array-borrow-prefix-store c = search needs
@@ -32,7 +32,7 @@ draw-spec =
     (tie.spec
     next-requires
     next-requires-2
-    cast-settle
+    cast-q
     array-borrow-prefix-store
     slice-aggregate-settle
     settle-requires

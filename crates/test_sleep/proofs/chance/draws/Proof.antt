@@ -5,10 +5,10 @@ use Rattle.test_sleep.proofs.chance.draws.Statement.{statement}
 use Rattle.test_sleep.proofs.chance.draws.Tie as tie
 
 abbrev Inv-loop : tie.InvT-loop
-Inv-loop n d₀ i₀ d i = Unit {0}
+Inv-loop start n d₀ i₀ d i = Unit {0}
 
 abbrev μ-loop : tie.MeasureT-loop
-μ-loop n d₀ i₀ d i = n - i
+μ-loop start n d₀ i₀ d i = n - i
 
 nothing-requires : tie.Need-nothing-requires Inv-loop μ-loop
 nothing-requires c κs = search needs

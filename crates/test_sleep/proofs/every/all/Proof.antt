@@ -5,10 +5,10 @@ use Rattle.test_sleep.proofs.every.all.Statement.{statement}
 use Rattle.test_sleep.proofs.every.all.Tie as tie
 
 abbrev Inv-loop : tie.InvT-loop
-Inv-loop q n end sum₀ code₀ sum code = Unit {0}
+Inv-loop q start n end sum₀ code₀ sum code = Unit {0}
 
 abbrev μ-loop : tie.MeasureT-loop
-μ-loop q n end sum₀ code₀ sum code = end - code
+μ-loop q start n end sum₀ code₀ sum code = end - code
 
 nothing-requires : tie.Need-nothing-requires Inv-loop μ-loop
 nothing-requires c κs = search needs

@@ -5,10 +5,10 @@ use Rattle.test_sleep.proofs.every.each.Statement.{statement}
 use Rattle.test_sleep.proofs.every.each.Tie as tie
 
 abbrev Inv-loop : tie.InvT-loop
-Inv-loop end₀ n₀ end n = Unit {0}
+Inv-loop start end₀ n₀ end n = Unit {0}
 
 abbrev μ-loop : tie.MeasureT-loop
-μ-loop end₀ n₀ end n = 8 - n
+μ-loop start end₀ n₀ end n = 8 - n
 
 loop-holds : tie.Need-loop-holds Inv-loop μ-loop
 loop-holds c = search needs

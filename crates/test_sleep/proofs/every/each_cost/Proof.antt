@@ -5,10 +5,10 @@ use Rattle.test_sleep.proofs.every.each_cost.Statement.{statement}
 use Rattle.test_sleep.proofs.every.each_cost.Tie as tie
 
 abbrev Inv-loop : tie.InvT-loop
-Inv-loop n end q₀ q = Unit {0}
+Inv-loop start n end q₀ q = Unit {0}
 
 abbrev μ-loop : tie.MeasureT-loop
-μ-loop n end q₀ q = 9 - q
+μ-loop start n end q₀ q = 9 - q
 
 loop-holds : tie.Need-loop-holds Inv-loop μ-loop
 loop-holds c = search needs

@@ -1,0 +1,6 @@
+#include "start.h"
+
+const char *start_prefix(enum start start)
+{
+    return start == START_AWAKE ? "awake " : "";
+}
