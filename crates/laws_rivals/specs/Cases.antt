@@ -8,7 +8,7 @@ use Rattle.sched.specs.Bounded.{total, anyBelow, allBelow, sumBelow, maxBelow, 
 use Rattle.sched.specs.Jobs.{Jobs, jobsFrom, jobsOf}
 use Rattle.sched.specs.Slots.{allSets}
 use Rattle.sched.specs.Energy.{awakeSlots, runsFrom, tableFigures}
-use Rattle.sched.specs.Cases.{third, thirdTable, startAwake}
+use Rattle.sched.specs.Cases.{third, thirdTable, startAwake, overSleep, overSleepTable}
 use Rattle.sched.specs.Skeleton.{isSkeleton, skeletons, leastOf, leastSkeleton}
 use Rattle.sched.specs.Workable.{mostFrom, workable}
 use Rattle.sched.specs.Extension.{helps, wakeable, nextWake, wokenIn, woken, wakeAll, extended}
@@ -29,6 +29,13 @@ pub table-becomes : planTable cardList ≡ 1 ∷ 1 ∷ 0 ∷ 0 ∷ []
 unfolding total anyBelow allBelow sumBelow maxBelow leastFrom lastBelow valuesFrom keep firstLeast allSets awakeSlots runsFrom isSkeleton skeletons
     leastOf leastSkeleton mostFrom workable helps wakeable nextWake wokenIn woken wakeAll extended earliest urgent goesOn fillBy tableOf sleepRule tableFrom planTable
 table-becomes = refl
+
+-- In slot 6 jobs 0 and 1 are due together; job 1, which ran in slot 4, goes on over the sleeping slot between. Step 4's table of its set is in
+-- `sched/specs/Cases` (`goes-on-over-sleep`).
+pub over-sleep-plan : planTable overSleep ≡ overSleepTable
+unfolding total anyBelow allBelow sumBelow maxBelow leastFrom lastBelow valuesFrom keep firstLeast allSets awakeSlots runsFrom isSkeleton skeletons
+    leastOf leastSkeleton mostFrom workable helps wakeable nextWake wokenIn woken wakeAll extended earliest urgent goesOn fillBy tableOf sleepRule tableFrom planTable
+over-sleep-plan = refl
 
 -- 02, card 10: from a start awake the least skeleton lasts from slot 0 up to the window, since its run there costs no wake. The job then runs behind
 -- six slots without work, which is not shorter than q: all of the skeleton sleeps, and the plan pays a wake.

@@ -1,9 +1,9 @@
 -- 01, "Plans worked by hand": the starred plans, in one table, and the one claim that the definitions give just these, so that a wrong edit of a
--- definition is refused here; at the end, slept tables, plans from a start awake (02, card 10) and faulty jobs. Figures and tables are those after
--- cards 5 and 6 of 02. What 01 and 02 do not name (some skeletons, orders, tables and figures) was computed by a separate search, or by hand. The
--- three rows before the last are card 6's: its own table, a job that gave way and has no claim afterwards, and a job that goes on behind a sleeping
--- slot. The last row is a plan that is not the best, with two stretches of just q slots: it has a rival's table that costs less, and the claim speaks
--- of that, too.
+-- definition is refused here; at the end, step 4's table of a longer list, slept tables, plans from a start awake (02, card 10) and faulty jobs.
+-- Figures and tables are those after cards 5 and 6 of 02. What 01 and 02 do not name (some skeletons, orders, tables and figures) was computed by a
+-- separate search, or by hand. The two rows before the last are card 6's: its own table, and a job that gave way and has no claim afterwards. The
+-- last row is a plan that is not the best, with two stretches of just q slots: it has a rival's table that costs less, and the claim speaks of that,
+-- too.
 use Prim.Native.Nat.{ℕ, suc, _<_}
 use mathlib.Core.Path.{_≡_, refl}
 use mathlib.Core.Bool.{Bool, true, false, _&&_}
@@ -137,8 +137,6 @@ starred =
     ∷ plans (jobs 1 65535 (job 0 1 1 ∷ [])) (0 ∷ []) [] (0 ∷ []) (65536 ∷ 1 ∷ 1 ∷ 0 ∷ [])
     ∷ plans (jobs 4 1 (job 1 4 2 ∷ job 0 4 2 ∷ [])) (3 ∷ []) (2 ∷ 1 ∷ 0 ∷ []) (1 ∷ 1 ∷ 0 ∷ 0 ∷ []) (5 ∷ 4 ∷ 1 ∷ 3 ∷ [])
     ∷ plans (jobs 5 1 (job 1 5 2 ∷ job 0 5 2 ∷ job 1 2 1 ∷ [])) (2 ∷ []) (1 ∷ 0 ∷ 3 ∷ 4 ∷ []) (1 ∷ 2 ∷ 0 ∷ 0 ∷ 1 ∷ []) (6 ∷ 5 ∷ 1 ∷ 4 ∷ [])
-    ∷ plans (jobs 12 0 (job 5 12 1 ∷ job 0 12 4 ∷ job 0 1 1 ∷ job 3 6 1 ∷ job 8 10 1 ∷ [])) (1 ∷ 6 ∷ 10 ∷ []) (0 ∷ 2 ∷ 3 ∷ 4 ∷ 9 ∷ [])
-    (2 ∷ 1 ∷ 1 ∷ 3 ∷ 1 ∷ 255 ∷ 1 ∷ 255 ∷ 255 ∷ 4 ∷ 0 ∷ 255 ∷ []) (8 ∷ 8 ∷ 3 ∷ 5 ∷ [])
     ∷ beaten (0 ∷ 255 ∷ 255 ∷ 1 ∷ 2 ∷ []) 2 5
     (plans (jobs 5 1 (job 0 1 1 ∷ job 2 4 1 ∷ job 4 5 1 ∷ [])) (1 ∷ 4 ∷ []) (0 ∷ 2 ∷ []) (0 ∷ 255 ∷ 1 ∷ 255 ∷ 2 ∷ []) (6 ∷ 3 ∷ 3 ∷ 2 ∷ []))
     ∷ []
@@ -210,6 +208,18 @@ unfolding members skeletonFor orderFor found plans overloads beaten starred chea
     helps wakeable nextWake wokenIn woken wakeAll extended earliest urgent goesOn fillBy tableOf valuesFrom sleepRule tableFrom planTable
     figuresOf planned earlyAnswer planBy plan
 starred-plans = all-right starred refl refl
+
+-- 02, card 6: a job that goes on behind a sleeping slot, in step 4's table of the set that the plan has; the whole plan is in
+-- `laws_rivals/specs/Cases`.
+abbrev pub overSleep : Jobs
+overSleep = jobs 12 0 (job 5 12 1 ∷ job 0 12 4 ∷ job 0 1 1 ∷ job 3 6 1 ∷ job 8 10 1 ∷ [])
+
+abbrev pub overSleepTable : List ℕ
+overSleepTable = 2 ∷ 1 ∷ 1 ∷ 3 ∷ 1 ∷ 255 ∷ 1 ∷ 255 ∷ 255 ∷ 4 ∷ 0 ∷ 255 ∷ []
+
+pub goes-on-over-sleep : tableOf overSleep (awakeOf overSleepTable) ≡ overSleepTable
+unfolding times total anyBelow allBelow sumBelow maxBelow leastFrom lastBelow earliest urgent goesOn fillBy tableOf
+goes-on-over-sleep = refl
 
 -- 02, card 5: tables of one job each before and after the sleep rule. A stretch of one, two and three slots with wake costs 0 to 4; slots before the
 -- first and after the last working one; no working slot; and bytes that are neither a job nor 254 or 255.
