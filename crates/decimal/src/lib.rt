@@ -1,4 +1,6 @@
 // Numbers as text: decimal digits in ASCII, written into a lent buffer.
+#![tactic(auto)]
+
 ghost use Rattle.std.specs.Prelude.{◌≡◌, ◌+◌, ◌≤◌, length};
 ghost use Rattle.decimal.specs.Decimal.{digits, PutsDigits};
 

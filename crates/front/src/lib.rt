@@ -1,4 +1,6 @@
 // What comes before any slot is planned, under any planner: the list checks, 17 for the table, the two orders of the jobs, and step 1.
+#![tactic(auto)]
+
 ghost use Rattle.front.specs.Early.{Room, AllPass, Found, Begins};
 
 use sched::{Checked, Early, Unplanned};

@@ -1,4 +1,6 @@
 // Job lists as bytes: a reader that fills three lent lists, and a writer that spells three lists out.
+#![tactic(auto)]
+
 ghost use Rattle.sched.specs.Jobs.{jobs_of};
 ghost use Rattle.joblist.specs.Reading.{ReadPromise};
 ghost use Rattle.joblist.specs.Writing.{WritePromise};

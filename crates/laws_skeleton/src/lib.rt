@@ -1,1 +1,3 @@
 // Laws of the least skeleton: no code, all of it stands in specs/.
+
+#![tactic(auto)]

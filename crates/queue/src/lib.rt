@@ -1,5 +1,7 @@
 // Who may run now, and runs of earliest deadline first over the awake slots of a table. `ranks` are the jobs by deadline, `arrivals` their ranks by
 // release; a set of ranks is a mask with a bit each.
+#![tactic(auto)]
+
 ghost use Rattle.std.specs.Prelude.{◌≡◌, ◌&&◌, ◌*◌, ◌/◌, ◌^◌, ◌≤◌, ◌<◌, length, leb, ltb};
 ghost use Rattle.sched.specs.Bits.{bit};
 ghost use Rattle.queue.specs.Ranks.{spans_of};

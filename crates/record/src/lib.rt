@@ -1,4 +1,6 @@
 // Plan record bytes: the writer, the reader, and the part of a record that holds one run.
+#![tactic(auto)]
+
 ghost use Rattle.std.specs.Prelude.{◌≡◌, ◌≤◌, length};
 ghost use Rattle.sched.specs.declared.Checked.TheVariants.{Passed};
 ghost use Rattle.record_parts.specs.Bytes.{record_check};

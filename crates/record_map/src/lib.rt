@@ -1,4 +1,5 @@
 // The map of a plan record: packed from a table, and taken apart again.
+#![tactic(auto)]
 
 mod reader; // reader.rt: a map that is read
 mod writer; // writer.rt: a map that is written

@@ -1,4 +1,6 @@
 // What the program prints, as bytes in a lent buffer.
+#![tactic(auto)]
+
 ghost use Rattle.std.specs.Prelude.{◌≡◌, ◌++◌, min, take};
 ghost use Rattle.report.specs.Report.{line, run_lines, text_of, TextPromise, Printable};
 

@@ -1,6 +1,8 @@
 // Step 1: the overloaded interval that is shown. In one pass all slots are awake, and of the jobs that wait the one with the earliest deadline is
 // served, behind its deadline, too. The least deadline that a job is finished behind is the end. The start is the greatest release from which the
 // jobs that are due by the end have too little room.
+#![tactic(auto)]
+
 ghost use Rattle.sched.specs.Jobs.{Jobs};
 ghost use Rattle.orders.specs.Lists.{ListsOf};
 ghost use Rattle.step1_overload.specs.Search.{Asked, Answers, StartFor};

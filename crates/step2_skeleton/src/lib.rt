@@ -1,4 +1,6 @@
 // Step 2: the least skeleton, from one number a job. A place is a position in an order of the jobs by the ends of their windows.
+#![tactic(auto)]
+
 ghost use Rattle.std.specs.Prelude.{◌≡◌, List, map, ℕ, ◌+◌, ◌-◌, ◌≤◌, ◌<◌, min, length, get_or, ltb};
 ghost use Rattle.sched.specs.Jobs.{Jobs};
 ghost use Rattle.steps.specs.Skeleton.{least_skeleton};

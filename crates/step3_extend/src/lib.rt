@@ -1,5 +1,7 @@
 // Step 3 of 01: the run over the skeleton, its books by rank, then a slot woken while volume is short. No function sees the whole list: what is asked
 // is asked of some list with the parts at hand, and what is promised holds for every such list.
+#![tactic(auto)]
+
 ghost use Rattle.std.specs.Prelude.{◌≡◌, ◌≤◌, length, replicate};
 ghost use Rattle.sched.specs.Bounded.{sum_below};
 ghost use Rattle.sched.specs.Jobs.{Jobs};

@@ -1,5 +1,7 @@
 // Tries to wake a sleeping slot, without a second run: the slot takes the first job by rank that reaches it, and each job that has lost no
 // unit hands on its last slot in turn, until a lost unit is gained. If none is, what was changed on the way is put back.
+#![tactic(auto)]
+
 ghost use Rattle.std.specs.Prelude.{◌≡◌, ◌+◌, ◌<◌, max};
 ghost use Rattle.laws_extension.specs.Chain.{end_below, gained_at};
 ghost use Rattle.step3_slot.specs.Books.{Stops, Gainable, Booked, Tryable, Attempted};

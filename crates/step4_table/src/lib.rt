@@ -1,4 +1,6 @@
 // Step 4: the job of each awake slot.
+#![tactic(auto)]
+
 ghost use Rattle.std.specs.Prelude.{ℕ, ◌≡◌, length};
 ghost use Rattle.std.proofs.Math.Option.{Option};
 ghost use Rattle.step4_table.specs.Filling.{Fillable, Fills};

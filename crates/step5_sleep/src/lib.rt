@@ -1,5 +1,7 @@
 // Step 5, after cards 5 and 10 of 02: the slots in which no job runs stay awake or go to sleep. It asks for a table, a wake cost and the start, not
 // for a list.
+#![tactic(auto)]
+
 ghost use Rattle.std.specs.Prelude.{◌≡◌, ◌≤◌, ltb};
 ghost use Rattle.std.proofs.Math.Option.{some};
 ghost use Rattle.sched.specs.Slots.{mark_byte};

@@ -1,13 +1,14 @@
 // What the test programs share: numbers and bytes printed, digests, counts, numbers by chance, parts of lists, and tables. That a function prints what is
 // said above it, the `stdout` of the programs shows; it is not proved.
+#![tactic(auto)]
+
 ghost use Rattle.std.specs.Prelude.{◌≡◌, ◌+◌, ◌*◌, ◌/◌, ◌%◌, ◌^◌, ◌<◌, length, take, replicate, slice_index, slice_set};
 ghost use Rattle.test_bytes.specs.Bytes.{digest_from, turns_from};
 
-use libc::STDOUT_FILENO;
 
 // Prints the bytes as they are.
 pub fn text(s: &[u8]) {
-    io::write_all(STDOUT_FILENO, s);
+    io::write_all(1, s);
 }
 
 // Prints the name of a line, behind `awake ` where the processor is awake before slot 0.
@@ -21,7 +22,7 @@ pub fn begin(start: bool, name: &[u8]) {
 // Prints a space and n in decimal.
 pub fn number(n: u64) {
     text(b" ");
-    io::print_decimal(STDOUT_FILENO, n);
+    io::print_decimal(1, n);
 }
 
 // Ends the line.

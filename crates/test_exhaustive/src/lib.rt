@@ -1,6 +1,8 @@
 // Document 01's steps from either start, by card 10 of 02, the fourth as card 6 has it and the fifth as cards 5 and 10 do, on lists of at most four
 // jobs and eight slots, by trying every set of slots and every placement. Test code: it is held against the planner, and shares no function with it.
 // What a function yields is said above it and tested by `test_plans`; it is proved only where its contract has an equation.
+#![tactic(auto)]
+
 ghost use Rattle.test_exhaustive.specs.Bounds.{Bounded};
 
 mod small; // small.rt: a small list packed in numbers

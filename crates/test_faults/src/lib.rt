@@ -1,5 +1,7 @@
 // Faulty jobs for the test programs: a deadline past the horizon (25), an empty span (15) and no volume (26), alone and together. The horizon is
 // 4,096 slots.
+#![tactic(auto)]
+
 ghost use Rattle.std.specs.Prelude.{false, ◌≡◌};
 ghost use Rattle.test_faults.specs.Faults.{wanted, found, left_out};
 

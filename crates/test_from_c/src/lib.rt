@@ -1,5 +1,7 @@
 // The record reader and the search for the tightest interval, for C. They are there for `make bench` alone, and no buyer gets them: the archive that they
 // get has one entry.
+#![tactic(auto)]
+
 ghost use Rattle.std.specs.Prelude.{ℕ, Bool};
 ghost use Rattle.sched.specs.Jobs.{jobs_from};
 ghost use Rattle.tightest.specs.Answer.{tightness};

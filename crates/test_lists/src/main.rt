@@ -1,5 +1,7 @@
 // Job lists read and written: the list worked out in hex, each refusal at its first and its last place, the longest list, the list in hex
 // with one byte changed, and faulty jobs. `stdout` was worked out apart from this program.
+#![tactic(auto)]
+
 ghost use Rattle.std.specs.Prelude.{◌≤◌};
 
 use joblist::{ListHeader, ListRead, ListWritten};

@@ -1,6 +1,7 @@
 // Plan records read back and handed out by runs: the records that 01 and 02 work by hand and that of docs/BYTES.md, each refusal at its first and last
 // place, several faults at once, tables of all kinds, all records of a few bytes, and damaged ones. `stdout` was worked out apart from this
 // program, by another implementation.
+#![tactic(auto)]
 
 mod show; // show.rt: answers as text
 mod cases; // cases.rt: the calls on one record, printed

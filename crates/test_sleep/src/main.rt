@@ -1,5 +1,6 @@
 // Step 5 by itself, as cards 5 and 10 of 02 have it: worked tables, every short table, a stretch of each length that matters, and tables by chance;
 // all of it from a start asleep, and then from a start awake. `stdout` is worked out apart from this program, by `tests/host/sweeps`.
+#![tactic(auto)]
 
 mod tally; // tally.rt: what many tables are after the rule
 mod worked; // worked.rt: single tables

@@ -1,6 +1,7 @@
 // Tables and records on chosen inputs: the third plan that 01 works by hand, before and after card 5 of 02, the plan of docs/BYTES.md, each refusal of the judge and of the
 // record writer at its first and last place, slots with two faults, bytes behind the horizon, and horizons around the ends of a map byte and of 64
 // slots.
+#![tactic(auto)]
 
 mod show; // show.rt: what a case prints
 mod tables; // tables.rt: tables and lists

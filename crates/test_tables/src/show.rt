@@ -1,12 +1,11 @@
 // What a case prints. That a function prints what is said above it, `stdout` shows; it is not proved.
 use judge::Judged;
-use libc::STDOUT_FILENO;
 use record::RecordWritten;
 use test_bytes::{end_line, number};
 
 // Prints a line: `judged`, then 0 and energy, awake slots and runs of a table that was accepted, or the refusal's number and place.
 pub fn judged(answer: Judged) {
-    io::write_all(STDOUT_FILENO, b"judged");
+    io::write_all(1, b"judged");
     match answer {
         Judged::Accepted(f) => {
             number(0);
@@ -24,7 +23,7 @@ pub fn judged(answer: Judged) {
 
 // Prints `record`, then 0 and the record's length and awake slots, or the refusal's number and place; does not end the line.
 pub fn written(answer: RecordWritten) {
-    io::write_all(STDOUT_FILENO, b"record");
+    io::write_all(1, b"record");
     match answer {
         RecordWritten::Written(size) => {
             number(0);

@@ -1,7 +1,6 @@
 // One answer, and signed numbers.
 ghost use Rattle.std.specs.Prelude.{◌≡◌, pos, int_lt, unsigned_abs};
 
-use libc::STDOUT_FILENO;
 use test_bytes::{number, text};
 use tightest::Tightness;
 
@@ -26,7 +25,7 @@ pub fn magnitude(x: i32) -> u64
 fn signed(x: i32) {
     if negative(x) {
         text(b" -");
-        io::print_decimal(STDOUT_FILENO, magnitude(x));
+        io::print_decimal(1, magnitude(x));
     } else {
         number(magnitude(x));
     }

@@ -1,5 +1,7 @@
 // Card 7: how close a list is to overload. For each job's deadline the releases before it are visited from the last to the first, while the volumes of
 // the jobs due by then add up: with n jobs, at most n times n steps.
+#![tactic(auto)]
+
 ghost use Rattle.std.specs.Prelude.{◌≡◌, Bool, ℕ, ◌≤◌, ◌<◌, length, get_or, pos, ◌-ℤ◌};
 ghost use Rattle.sched.specs.Jobs.{Jobs, jobs_from};
 ghost use Rattle.sched.specs.Checks.{CheckPromise};

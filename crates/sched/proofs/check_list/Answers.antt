@@ -1,0 +1,10 @@
+-- `check_list` meets its contract: 12 for H decides, and where it passes the other list checks do.
+use mathlib.Core.Path.{sym, ◌∙◌}
+use Rattle.sched.specs.Checks.Laws.{check_same, then_fails, then_passes}
+use Rattle.sched.proofs.check_list.Goals as goal
+
+pub returns-in-Passed : goal.returns-in-Passed
+returns-in-Passed c = check_same (c.check_lists.ensures ∙ sym (then_passes _ _ (sym c.check_horizon.ensures.same ∙ c.in-Passed.is)))
+
+pub returns-in-Refused : goal.returns-in-Refused
+returns-in-Refused c = check_same (sym (then_fails _ _ _ (sym c.check_horizon.ensures.same ∙ c.in-Refused.is)))
