@@ -10,7 +10,7 @@ pub overflow_add-end : goal.overflow_add-end
 overflow_add-end c = omega (arith, c.size.ensures)
 
 pub loop-left-init : goal.loop-left-init
-loop-left-init c = stored_start _ _ _ _ c.ranges.x c.requires (ap (λ (n : ℕ). c.args.at + n) c.size.ensures)
+loop-left-init c = stored_start _ _ _ _ c.ranges.x.fits c.requires (ap (λ (n : ℕ). c.args.at + n) c.size.ensures)
 
 pub overflow_sub-place : goal.overflow_sub-place
 overflow_sub-place c = (stored_inside _ _ _ _ _ _ c.loop-left.invariant).0

@@ -4,7 +4,7 @@ use Rattle.decimal.specs.Decimal.Laws.{counted_start, counted_few, counted_turn,
 use Rattle.decimal.proofs.size.Goals as goal
 
 pub loop-left-init : goal.loop-left-init
-loop-left-init c = counted_start _ c.ranges.x
+loop-left-init c = counted_start _ c.ranges.x.fits
 
 pub overflow_add-n : goal.overflow_add-n
 overflow_add-n c = omega (arith, counted_few _ _ _ c.loop-left.invariant)
