@@ -1,6 +1,6 @@
 -- The ways to an answer: a faulty list, a short table, an overloaded interval; or none yet.
 use Prim.Native.Nat.{ℕ}
-use mathlib.Core.Path.{◌≡◌, sym, ap, ◌∙◌}
+use mathlib.Core.Path.{◌≡◌, sym, ◌∙◌}
 use mathlib.Core.List.{List}
 use native.Mathlib.Omega.{arith}
 use Rattle.sched.specs.Jobs.{jobs_from}
@@ -10,22 +10,18 @@ use Rattle.steps.specs.Outcomes.Laws.{early_faulty, early_length, early_overload
 use Rattle.sched.specs.declared.Checked.TheVariants.{Passed as Ok, Refused as Faulty}
 use Rattle.sched.specs.declared.Refusal.{Refusal}
 use Rattle.sched.specs.declared.Interval.{Interval}
-use Rattle.sched.specs.Answers.{early_number, early_values}
-use Rattle.sched.specs.declared.Unplanned.{Unplanned}
-use Rattle.sched.specs.declared.Unplanned.TheVariants.{Refused, Overloaded}
-use Rattle.sched.specs.declared.Early.{Early}
-use Rattle.sched.specs.declared.Early.TheVariants.{Ended, Open}
+use Rattle.sched.specs.declared.Outcome.{Outcome}
+use Rattle.sched.specs.declared.Outcome.TheVariants.{Overloaded, Refused}
 use Rattle.step1_overload.specs.Search.Laws.{found_at, found_none}
 use Rattle.step1_overload.specs.declared.Shown.{Shown}
 use Rattle.step1_overload.specs.declared.Shown.TheVariants.{Nothing, At}
-use Rattle.front.specs.Early.{AllPass, Found, EarlyPromise, Begins}
+use Rattle.front.specs.declared.Early.{Early}
+use Rattle.front.specs.declared.Early.TheVariants.{Ended, Open}
+use Rattle.front.specs.Early.{AllPass, Found, Begins}
+use Rattle.front.specs.Early.Laws.{early_same}
 
--- an answer that is the definition's has its number and values
-early_same : {given answer : Early} → given ≡ answer → EarlyPromise given answer
-early_same e = record { number = ap early_number (sym e); values = ap early_values (sym e); same = sym e }
-
-ended_not_open : {A : Type 0} (u : Unplanned) → ◌≡◌ {A = Early} (Ended u) Open → A
-ended_not_open u e = let z : ◌≡◌ {A = ℕ} 0 1 = cc in absurd (omega arith)
+ended_not_open : {A : Type 0} (o : Outcome) → ◌≡◌ {A = Early} (Ended o) Open → A
+ended_not_open o e = let z : ◌≡◌ {A = ℕ} 0 1 = cc in absurd (omega arith)
 
 module _ (h : ℕ) (rs ds ps : List ℕ) (have : ℕ) (ranks arrivals : List ℕ) where
   pub list_refused : (r : Refusal) → list_check h rs ds ps ≡ Faulty r → Begins h rs ds ps have (Ended (Refused r)) ranks arrivals

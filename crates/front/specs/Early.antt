@@ -1,15 +1,33 @@
--- What is asked and promised before any slot is planned. Each promise holds for every wake cost and every state before slot 0.
+-- What is asked and promised before any slot is planned, and the number and values of each answer. Each promise holds for every wake cost and
+-- every state before slot 0.
 use Rattle.std.specs.Prelude.{ℕ, ◌≤◌, ◌≡◌, Bool, List, length, take}
+use Rattle.std.proofs.Math.Option.{Option, none, some}
 use Rattle.sched.specs.Jobs.{jobs_from}
 use Rattle.sched.specs.Checks.{Passes}
 use Rattle.steps.specs.Overload.{shown_overload}
 use Rattle.steps.specs.Outcomes.{early_answer}
-use Rattle.sched.specs.Answers.{early_number, early_values}
-use Rattle.sched.specs.declared.Early.{Early}
-use Rattle.sched.specs.declared.Early.TheVariants.{Open}
+use Rattle.sched.specs.Answers.{outcome_number, outcome_values}
+use Rattle.sched.specs.declared.Outcome.{Outcome}
 use Rattle.laws_edf.specs.Orders.{Orders}
 use Rattle.step1_overload.specs.Search.{as_shown}
 use Rattle.step1_overload.specs.declared.Shown.{Shown}
+use Rattle.front.specs.declared.Early.{Early}
+use Rattle.front.specs.declared.Early.TheVariants.{Ended, Open}
+pub mod Laws
+
+-- an answer that there is already has the outcome's number and values; where there is none yet there is no number, as 0 would say planned
+abbrev pub early_number : Early → Option ℕ
+early_number (Ended o) = some (outcome_number o)
+early_number Open = none
+
+abbrev pub early_values : Early → Option (List ℕ)
+early_values (Ended o) = some (outcome_values o)
+early_values Open = none
+
+-- the answer for what the definition gives
+abbrev pub as_early : Option Outcome → Early
+as_early (some o) = Ended o
+as_early none = Open
 
 -- the promise: the number and the values that come back are those of the definition, and so is the case
 pub record EarlyPromise (wanted answer : Early) : Type 0 where
@@ -36,5 +54,5 @@ pub record Found (h : ℕ) (rs ds ps : List ℕ) (answer : Shown) (ranks arrival
 
 -- the answer is 01's; where there is none yet, the list passes the checks, the table is long enough, and the jobs are in order
 pub record Begins (h : ℕ) (rs ds ps : List ℕ) (have : ℕ) (answer : Early) (ranks arrivals : List ℕ) : Type 0 where
-  pub early : (q : ℕ) (start : Bool) → EarlyPromise (early_answer (jobs_from h q start rs ds ps) have) answer
+  pub early : (q : ℕ) (start : Bool) → EarlyPromise (as_early (early_answer (jobs_from h q start rs ds ps) have)) answer
   pub orders : answer ≡ Open → InFront rs ds ranks arrivals

@@ -3,8 +3,15 @@
 
 ghost use Rattle.front.specs.Early.{Room, AllPass, Found, Begins};
 
-use sched::{Checked, Early, Unplanned};
+use sched::{Checked, Outcome};
 use step1_overload::Shown;
+
+// The answer, if there is one already.
+#[derive(Drop)]
+pub enum Early {
+    Ended(Outcome),
+    Open,
+}
 
 // Puts the jobs of a list that passes the checks in order, and takes step 1.
 fn order_and_find(
@@ -41,11 +48,11 @@ pub fn begin(
             Checked::Passed => match order_and_find(
                 h, releases, deadlines, volumes, ranks, arrivals,
             ) {
-                Shown::At(i) => Early::Ended(Unplanned::Overloaded(i)),
+                Shown::At(i) => Early::Ended(Outcome::Overloaded(i)),
                 Shown::Nothing => Early::Open,
             },
-            Checked::Refused(r) => Early::Ended(Unplanned::Refused(r)),
+            Checked::Refused(r) => Early::Ended(Outcome::Refused(r)),
         },
-        Checked::Refused(r) => Early::Ended(Unplanned::Refused(r)),
+        Checked::Refused(r) => Early::Ended(Outcome::Refused(r)),
     }
 }

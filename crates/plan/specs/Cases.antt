@@ -2,16 +2,16 @@
 -- refused here. The plan of the third list follows from its row (`worked_plans/specs/Starred`).
 use Rattle.std.specs.Prelude.{ℕ, ◌≡◌, refl, List, [], ◌++◌, length, take, drop}
 use Rattle.std.proofs.Common.{ap, ap₂, ◌∙◌}
+use Rattle.std.proofs.Math.Option.{none}
 use Rattle.sched.specs.Bounded.{total, any_below, sum_below, least_from}
 use Rattle.sched.specs.Checks.{check_from}
 use Rattle.sched.specs.Energy.{awake_slots, runs_from}
 use Rattle.sched.specs.Runs.{leading, run_list_from}
 use Rattle.sched.specs.Cases.{third}
 use Rattle.sched.specs.declared.Checked.{Checked}
-use Rattle.sched.specs.declared.Early.TheVariants.{Open}
 use Rattle.sched.specs.declared.Outcome.TheVariants.{Planned}
 use Rattle.steps.specs.Overload.{volume_if, volume_inside, overloaded, overload_ending_at, shown_overload}
-use Rattle.steps.specs.Outcomes.{Plan, figures_of, early_answer, planned, in_outcome, plan}
+use Rattle.steps.specs.Outcomes.{Plan, figures_of, early_answer, planned, plan}
 use Rattle.steps.specs.Outcomes.Laws.{plan_goes_on}
 use Rattle.worked_plans.specs.Starred.{third_steps}
 use Rattle.joblist.specs.Cases.{third_bytes, third_list, third_passes}
@@ -24,7 +24,7 @@ third_read : printed third_bytes ≡ printed_plan third
 unfolding printed
 third_read = ap (λ (c : Checked). printed_after c third_bytes) third_passes ∙ ap printed_plan third_list
 
-third_open : early_answer third (length lent_table) ≡ Open
+third_open : early_answer third (length lent_table) ≡ none
 unfolding total any_below sum_below least_from check_from volume_if volume_inside overloaded overload_ending_at shown_overload early_answer
 third_open = refl
 
@@ -35,7 +35,7 @@ text_from table order = text_of (Planned (figures_of third table (length order))
 third_text_lem : printed_plan third ≡ third_text
 unfolding plan planned figures_of awake_slots runs_from leading run_list_from digits digits_in numbers lines_of
 third_text_lem =
-    ap (λ (x : Plan). text_of x.answer (take 10 x.table)) (plan_goes_on in_outcome planned third lent_table third_open)
+    ap (λ (x : Plan). text_of x.answer (take 10 x.table)) (plan_goes_on planned third lent_table third_open)
     ∙ ap₂ text_from third_steps.0 third_steps.1
 
 pub third_printed : printed third_bytes ≡ third_text

@@ -28,6 +28,14 @@ third_table = 0 ∷ 2 ∷ 2 ∷ 2 ∷ 2 ∷ 2 ∷ 254 ∷ 254 ∷ 1 ∷ 1 ∷ []
 abbrev pub start_awake : Jobs → Jobs
 start_awake J = jobs_from J.horizon J.wake true J.releases J.deadlines J.volumes
 
+-- 02, card 6: a list in which a job goes on behind a sleeping slot, and its plan's table (`goes_on_over_sleep` in `steps/specs/Cases`,
+-- `over_sleep_plan` in `laws_rivals/specs/Cases`)
+abbrev pub over_sleep : Jobs
+over_sleep = jobs 12 0 (job 5 12 1 ∷ job 0 12 4 ∷ job 0 1 1 ∷ job 3 6 1 ∷ job 8 10 1 ∷ [])
+
+abbrev pub over_sleep_table : List ℕ
+over_sleep_table = 2 ∷ 1 ∷ 1 ∷ 3 ∷ 1 ∷ 255 ∷ 1 ∷ 255 ∷ 255 ∷ 4 ∷ 0 ∷ 255 ∷ []
+
 -- the sum of volumes counts units, not jobs
 pub third_volume : total_volume third ≡ 8
 unfolding total

@@ -12,11 +12,10 @@ use Rattle.sched.specs.Refusals.{place}
 use Rattle.sched.specs.Refusals.Laws.{refusal_number}
 use Rattle.sched.specs.Checks.{Passes}
 use Rattle.sched.specs.Checks.Laws.{passes_passed}
-use Rattle.steps.specs.Outcomes.{Plan, planned, in_outcome, plan}
+use Rattle.steps.specs.Outcomes.{Plan, planned, plan}
 use Rattle.sched.specs.Answers.{outcome_number, outcome_values}
 use Rattle.steps.specs.Outcomes.Laws.{early_short, plan_ended}
 use Rattle.sched.specs.declared.Refusal.TheVariants.{TooShort}
-use Rattle.sched.specs.declared.Unplanned.TheVariants.{Refused as NotTaken}
 use Rattle.sched.specs.declared.PlanFigures.{PlanFigures}
 use Rattle.sched.specs.declared.Outcome.{Outcome}
 use Rattle.sched.specs.declared.Outcome.TheVariants.{Planned, Overloaded, Refused}
@@ -53,7 +52,7 @@ module _ (J : Jobs) (p : Passes J) where
       (λ t. long_fits o (take J.horizon table') (a (leb-true J.horizon (length lent) t)) s)
       (λ f.
       let short = early_short J (length lent) (passes_passed J p) (leb-false J.horizon (length lent) f) in
-      let refused = plan_ended in_outcome planned J lent (NotTaken (TooShort J.horizon)) short in
+      let refused = plan_ended planned J lent (Refused (TooShort J.horizon)) short in
       subst ValuesFit (sym (e ∙ ap (λ (x : Plan). x.answer) refused)) (omega (arith, p.high)))
 
 -- 18 is the number of overload alone

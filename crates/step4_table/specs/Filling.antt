@@ -29,7 +29,7 @@ onward_table releases deadlines volumes S = fill_by (onward (spans_of releases d
 -- The lent table, however long it is, is filled by that rule over its awake slots. For every list with these parts: in a table of H bytes in which all
 -- volume can be worked, step 4 has been taken; and in a longer table each awake slot behind slot H − 1 is idle, and each that slept sleeps.
 pub record Fills (releases deadlines volumes table table' : List ℕ) : Type 0 where
-  pub run_is : table' ≡ onward_table releases deadlines volumes (awake_of table)
+  pub run_is : table' ≡ fill_by (onward (spans_of releases deadlines)) 0 volumes none (awake_of table)
   pub step_is : (J : Jobs) → ListsOf J releases deadlines volumes → length table ≡ J.horizon → workable J (awake_of table) ≡ total_volume J
       → table' ≡ table_of J (awake_of table)
   pub behind_is : (J : Jobs) → ListsOf J releases deadlines volumes → (t : ℕ) → J.horizon ≤ t → t < length table

@@ -1,11 +1,12 @@
--- Closed cases of the steps on lists of at most five slots, so that a wrong edit of a definition is refused here. The plans that 01 works by hand are in
+-- Closed cases of the steps, all but one on lists of at most five slots, so that a wrong edit of a definition is refused here. The plans that 01 works by hand are in
 -- `worked_plans/specs`.
 use Rattle.std.specs.Prelude.{◌≡◌, refl, true, false, [], ◌∷◌, map}
 use Rattle.std.proofs.Math.Option.{none, some}
 use Rattle.sched.specs.Bounded.{total, any_below, all_below, sum_below, max_below, least_from, last_below, values_from, keep, first_least}
 use Rattle.sched.specs.Checks.{check_from}
+use Rattle.sched.specs.Slots.{awake_of, times}
 use Rattle.sched.specs.Energy.{awake_slots, runs_from}
-use Rattle.sched.specs.Cases.{job, jobs, start_awake}
+use Rattle.sched.specs.Cases.{job, jobs, start_awake, over_sleep, over_sleep_table}
 use Rattle.sched.specs.declared.Outcome.TheVariants.{Planned}
 use Rattle.steps.specs.Overload.{volume_if, volume_inside, overloaded, overload_ending_at, shown_overload}
 use Rattle.steps.specs.Skeleton.{is_skeleton, all_sets, skeletons, least_of, least_skeleton}
@@ -49,8 +50,14 @@ unfolding all_below earliest urgent going_on fill_by table_of
 lowest_first = refl
 
 -- 02, card 6: job 1 goes on behind the sleeping slot
-pub goes_on_over_sleep : table_of (jobs 4 1 (job 2 4 1 ∷ job 0 4 2 ∷ [])) (true ∷ false ∷ true ∷ true ∷ []) ≡ 1 ∷ 255 ∷ 1 ∷ 0 ∷ []
+pub goes_on_small : table_of (jobs 4 1 (job 2 4 1 ∷ job 0 4 2 ∷ [])) (true ∷ false ∷ true ∷ true ∷ []) ≡ 1 ∷ 255 ∷ 1 ∷ 0 ∷ []
 unfolding all_below earliest urgent going_on fill_by table_of
+goes_on_small = refl
+
+-- 02, card 6: a job that goes on behind a sleeping slot, in step 4's table of the set that the plan has; the whole plan is in
+-- `laws_rivals/specs/Cases`.
+pub goes_on_over_sleep : table_of over_sleep (awake_of over_sleep_table) ≡ over_sleep_table
+unfolding times total any_below all_below sum_below max_below least_from last_below earliest urgent going_on fill_by table_of
 goes_on_over_sleep = refl
 
 -- Step 5, 02, card 5: a stretch of one slot with wake costs 1 and 2, between slots that sleep whatever they held

@@ -1,10 +1,10 @@
 -- 01, "Plans worked by hand": the starred plans, in one table, and the one claim that the definitions give just these. Figures and tables are those
 -- after cards 5 and 6 of 02. What 01 and 02 do not name (some skeletons, orders, tables and figures) was computed by a separate search, or by hand. The
--- three rows before the last are card 6's: its own table, a job that gave way and has no claim afterwards, and a job that goes on behind a sleeping slot.
--- The last row is a plan that is not the best, with two stretches of just q slots: it has a rival's table that costs less, and the claim speaks of that,
--- too.
+-- two rows before the last are card 6's: its own table, and a job that gave way and has no claim afterwards. The last row is a plan that is not the
+-- best, with two stretches of just q slots: it has a rival's table that costs less, and the claim speaks of that, too.
 use Rattle.std.specs.Prelude.{◌≡◌, refl}
 use Rattle.std.proofs.Common.{sym, ◌∙◌}
+use Rattle.std.proofs.Math.Option.{none}
 use mathlib.Core.List.Memᴰ.{head as here}
 use mathlib.Core.List.Memᴰ.{tail as later}
 use mathlib.Core.List.{List, [], ◌∷◌, append-nil, Memᴰ}
@@ -12,7 +12,6 @@ use Rattle.sched.specs.Bounded.{total, any_below, all_below, sum_below, max_belo
 use Rattle.sched.specs.Checks.{check_from}
 use Rattle.sched.specs.Slots.{times}
 use Rattle.sched.specs.Energy.{awake_slots, runs_from}
-use Rattle.sched.specs.declared.Early.TheVariants.{Open}
 use Rattle.sched.specs.Cases.{job, jobs, third, third_table}
 use Rattle.steps.specs.Overload.{volume_if, volume_inside, overloaded, overload_ending_at, shown_overload}
 use Rattle.steps.specs.Skeleton.{is_skeleton, all_sets, skeletons, least_of, least_skeleton}
@@ -42,8 +41,6 @@ starred =
     ∷ plans (jobs 1 65535 (job 0 1 1 ∷ [])) (0 ∷ []) [] (0 ∷ []) (65536 ∷ 1 ∷ 1 ∷ 0 ∷ [])
     ∷ plans (jobs 4 1 (job 1 4 2 ∷ job 0 4 2 ∷ [])) (3 ∷ []) (2 ∷ 1 ∷ 0 ∷ []) (1 ∷ 1 ∷ 0 ∷ 0 ∷ []) (5 ∷ 4 ∷ 1 ∷ 3 ∷ [])
     ∷ plans (jobs 5 1 (job 1 5 2 ∷ job 0 5 2 ∷ job 1 2 1 ∷ [])) (2 ∷ []) (1 ∷ 0 ∷ 3 ∷ 4 ∷ []) (1 ∷ 2 ∷ 0 ∷ 0 ∷ 1 ∷ []) (6 ∷ 5 ∷ 1 ∷ 4 ∷ [])
-    ∷ plans (jobs 12 0 (job 5 12 1 ∷ job 0 12 4 ∷ job 0 1 1 ∷ job 3 6 1 ∷ job 8 10 1 ∷ [])) (1 ∷ 6 ∷ 10 ∷ []) (0 ∷ 2 ∷ 3 ∷ 4 ∷ 9 ∷ [])
-    (2 ∷ 1 ∷ 1 ∷ 3 ∷ 1 ∷ 255 ∷ 1 ∷ 255 ∷ 255 ∷ 4 ∷ 0 ∷ 255 ∷ []) (8 ∷ 8 ∷ 3 ∷ 5 ∷ [])
     ∷ beaten (0 ∷ 255 ∷ 255 ∷ 1 ∷ 2 ∷ []) 2 5
     (plans (jobs 5 1 (job 0 1 1 ∷ job 2 4 1 ∷ job 4 5 1 ∷ [])) (1 ∷ 4 ∷ []) (0 ∷ 2 ∷ []) (0 ∷ 255 ∷ 1 ∷ 255 ∷ 2 ∷ []) (6 ∷ 3 ∷ 3 ∷ 2 ∷ []))
     ∷ []
@@ -58,7 +55,7 @@ unfolding members skeleton_for order_for found plans overloads beaten starred ch
 starred_plans = all_right starred refl refl
 
 -- the third plan's table and order, for other cases to cite
-third_open : early_answer third 10 ≡ Open
+third_open : early_answer third 10 ≡ none
 unfolding total any_below sum_below least_from check_from volume_if volume_inside overloaded overload_ending_at shown_overload early_answer
 third_open = refl
 

@@ -1,15 +1,13 @@
--- 02, card 10: worked plans from a start awake, then three of these lists from a start asleep, to compare. In the first the start touches
+-- 02, card 10: worked plans from a start awake, and at the end three of these lists from a start asleep, to compare. In the first the start touches
 -- nothing, so that slot 0 is not woken; in the fifth all of the skeleton sleeps in the end; the sixth has a run that is free and one that is paid.
--- Behind them two longer ones. In the first of these the least skeleton lasts from slot 0 up to the window, since its run there costs no wake; the job
--- runs behind six slots without work, which is not shorter than q, so that all of the skeleton sleeps and the plan pays a wake. The second is 01's third
--- list: its skeleton has slot 0, the table is the same, and its run costs no wake.
+-- Longer lists are in `Longer` and in `laws_rivals/specs/Cases`.
 use Rattle.std.specs.Prelude.{refl}
 use mathlib.Core.List.{List, [], ◌∷◌, Memᴰ}
 use Rattle.sched.specs.Bounded.{total, any_below, all_below, sum_below, max_below, least_from, last_below, values_from, keep, first_least}
 use Rattle.sched.specs.Checks.{check_from}
 use Rattle.sched.specs.Slots.{times}
 use Rattle.sched.specs.Energy.{awake_slots, runs_from}
-use Rattle.sched.specs.Cases.{job, jobs, third, third_table, start_awake}
+use Rattle.sched.specs.Cases.{job, jobs, start_awake}
 use Rattle.steps.specs.Overload.{volume_if, volume_inside, overloaded, overload_ending_at, shown_overload}
 use Rattle.steps.specs.Skeleton.{is_skeleton, all_sets, skeletons, least_of, least_skeleton}
 use Rattle.steps.specs.Workable.{most_from, workable}
@@ -33,9 +31,6 @@ started_awake =
     ∷ plans (jobs 4 2 (job 0 2 1 ∷ job 3 4 1 ∷ [])) (2 ∷ []) (1 ∷ 3 ∷ []) (255 ∷ 0 ∷ 254 ∷ 1 ∷ []) (5 ∷ 3 ∷ 1 ∷ 2 ∷ [])
     ∷ plans (jobs 3 2 (job 0 1 1 ∷ job 2 3 1 ∷ [])) (1 ∷ []) (0 ∷ 2 ∷ []) (0 ∷ 254 ∷ 1 ∷ []) (5 ∷ 3 ∷ 1 ∷ 2 ∷ [])
     ∷ plans (jobs 2 1 (job 0 1 1 ∷ [])) (1 ∷ []) (0 ∷ []) (0 ∷ 255 ∷ []) (2 ∷ 1 ∷ 1 ∷ 1 ∷ [])
-    ∷ plans (start_awake (jobs 12 6 (job 6 8 1 ∷ []))) (0 ∷ 1 ∷ 2 ∷ 3 ∷ 4 ∷ 5 ∷ []) (6 ∷ [])
-    (255 ∷ 255 ∷ 255 ∷ 255 ∷ 255 ∷ 255 ∷ 0 ∷ 255 ∷ 255 ∷ 255 ∷ 255 ∷ 255 ∷ []) (7 ∷ 1 ∷ 1 ∷ 1 ∷ [])
-    ∷ plans (start_awake third) (0 ∷ 9 ∷ []) (1 ∷ 2 ∷ 3 ∷ 4 ∷ 5 ∷ 8 ∷ []) third_table (10 ∷ 10 ∷ 1 ∷ 6 ∷ [])
     ∷ []
 
 pub started_awake_plans : (row : Row) → Memᴰ row started_awake → Right row

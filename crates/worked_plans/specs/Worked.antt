@@ -58,7 +58,7 @@ sevens J = replicate J.horizon 7
 -- the plan that the definitions give
 unfoldable pub found : Jobs → Worked
 found J =
-    let p = plan J (sevens J) in
+    let p = plan J (replicate J.horizon 7) in
     record {
       list = J;
       skeleton = skeleton_for J p.answer;
@@ -77,7 +77,7 @@ plans J sk ord tab vals =
 unfoldable pub overloads : Jobs → ℕ → ℕ → Row
 overloads J a b =
     record {
-      worked = record { list = J; skeleton = []; order = []; table = sevens J; number = 18; values = a ∷ b ∷ [] };
+      worked = record { list = J; skeleton = []; order = []; table = replicate J.horizon 7; number = 18; values = a ∷ b ∷ [] };
       rival = none;
     }
 

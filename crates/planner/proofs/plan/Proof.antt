@@ -2,13 +2,14 @@
 use mathlib.Core.Path.{◌≡◌, sym, refl, ◌∙◌}
 use Prim.Native.Nat.{ℕ, ◌≤◌}
 use mathlib.Core.List.{List}
+use mathlib.Core.Option.{none}
 use lib.ListN.{length, length-replicate}
 use native.Mathlib.Omega.{arith}
 use lib.Seq.{length-take-le}
 use Rattle.sched.specs.Jobs.{Jobs, jobs_from}
 use Rattle.steps.specs.Outcomes.{early_answer}
 use Rattle.steps.specs.Outcomes.Laws.{early_open}
-use Rattle.sched.specs.declared.Early.TheVariants.{Open}
+use Rattle.front.specs.Early.Laws.{ended_some, open_none}
 use Rattle.orders.specs.Fronts.{blank, front_length}
 use Rattle.planner.specs.Promises.Laws.{answered_early, steps_planned}
 use borrow.Author.Rules.{rules}
@@ -29,8 +30,8 @@ start c = c.before.before.before.before.before.before.before
 abbrev begun : tie.After-enum-told → tie.After-begin
 begun c = c.before.before.before.before
 
-open_yet : (c : tie.After-enum-told) → early_answer (listed (start (begun c))) (length (start (begun c)).args.table.now) ≡ Open
-open_yet c = sym ((begun c).begin.ensures.early _ _).same ∙ c.enum_told.given.1
+open_yet : (c : tie.After-enum-told) → early_answer (listed (start (begun c))) (length (start (begun c)).args.table.now) ≡ none
+open_yet c = open_none _ (sym c.enum_told.given.1 ∙ ((begun c).begin.ensures.early _ _).same)
 
 ranks_fit : (c : tie.After-enum-told) → length (start (begun c)).args.releases.now ≤ length (begun c).begin.new.1.1.1.1.1.0
 ranks_fit c = room_left _ (begun c).begin.new.1.1.1.1.1.0 (early_open _ _ (open_yet c)).0.few (begun c).begin.auto.1.1.1.1.1.0
@@ -47,8 +48,8 @@ slice_aggregate_begin_2 c = search rules
 begin_requires : tie.Need-begin-requires
 begin_requires c κs = search rules
 
-enum_known_answer : tie.Need-enum-known-answer
-enum_known_answer c = search rules
+enum_known_outcome : tie.Need-enum-known-outcome
+enum_known_outcome c = search rules
 
 enum_told : tie.Need-enum-told
 enum_told c = search rules
@@ -82,14 +83,10 @@ follow_requires c κs =
       long = length-take-le _ _ free.1;
     }
 
-said_requires : tie.Need-said-requires
-said_requires c κs = search rules
-
 returns : tie.Need-returns
 returns c =
-    let told = c.before.before in
-    let answered = told.before.before.before.before in
-    rw c.said.ensures (answered_early (listed (start answered)) _ _ (sym (answered.begin.ensures.early _ _).same ∙ told.answer.given.1))
+    let answered = c.before.before.before.before.before in
+    answered_early (listed (start answered)) _ _ (ended_some _ _ (sym c.before.outcome.given.1 ∙ (answered.begin.ensures.early _ _).same))
 
 same_length : tie.Need-same-length
 same_length c = search rules
@@ -106,8 +103,7 @@ plan_spec =
     slice_aggregate_begin
     slice_aggregate_begin_2
     begin_requires
-    enum_known_answer
-    said_requires
+    enum_known_outcome
     enum_told
     array_share_prefix_ranks
     slice_aggregate_follow

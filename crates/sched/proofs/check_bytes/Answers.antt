@@ -1,5 +1,4 @@
 -- `check_bytes` meets its contract: a turn is a byte of the walk.
-use Prim.Native.Nat.{◌-◌}
 use mathlib.Core.Path.{refl}
 use Rattle.std.proofs.Common.{rules}
 use Rattle.sched.specs.Checks.{byte_check}

@@ -2,7 +2,6 @@
 use Rattle.sched.proofs.JobByJob.{check_next, check_stop, check_end}
 use native.Mathlib.Nat.{sub-zero}
 use mathlib.Core.Path.{sym, ◌∙◌}
-use Prim.Native.Nat.{◌-◌}
 use Rattle.std.proofs.Common.{rules}
 use Rattle.sched.proofs.check_jobs.Goals as goal
 

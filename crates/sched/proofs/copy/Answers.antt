@@ -1,5 +1,4 @@
 -- `sched::copy` meets its contract: the first i numbers are those of the source, the rest as they were.
-use Prim.Native.Nat.{◌-◌}
 use mathlib.Core.Path.{◌≡◌, refl}
 use native.Mathlib.Omega.{arith}
 use Rattle.std.proofs.Common.{rules}

@@ -1,5 +1,5 @@
 -- `sched::cost_of` meets its contract: each turn counts one slot more, and nothing overflows since there are few slots and runs.
-use Prim.Native.Nat.{◌-◌, ◌≤◌}
+use Prim.Native.Nat.{◌≤◌}
 use native.Mathlib.Omega.{arith}
 use Rattle.std.proofs.Common.{rules}
 use Rattle.sched.proofs.Tally.{tally_start, tally_asleep, tally_goes_on, tally_begins, tally_awake_few, tally_runs_few, tally_end, wakes_few, cost_fits, figures_are}

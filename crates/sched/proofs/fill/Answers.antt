@@ -1,5 +1,4 @@
 -- `fill` meets its contract: a byte a turn joins the stretch.
-use Prim.Native.Nat.{◌-◌}
 use Rattle.sched.proofs.Poured.{poured_start, poured_turn, poured_end}
 use Rattle.sched.proofs.fill.Goals as goal
 

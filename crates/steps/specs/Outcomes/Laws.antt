@@ -7,36 +7,34 @@ use Rattle.sched.specs.Jobs.{Jobs}
 use Rattle.sched.specs.Checks.{Passes, and_then, length_check, check_of}
 use Rattle.sched.specs.Checks.Laws.{passed_passes, passes_passed, then_passed, then_fails, then_passes, length_good, length_passes, length_fails}
 use Rattle.steps.specs.Overload.{shown_overload}
-use Rattle.steps.specs.Outcomes.{PlanOf, early_answer, Says, say, plan_by}
+use Rattle.steps.specs.Outcomes.{Plan, early_answer, plan_by}
 use Rattle.sched.specs.declared.Refusal.{Refusal}
 use Rattle.sched.specs.declared.Refusal.TheVariants.{TooShort}
 use Rattle.sched.specs.declared.Checked.{Checked}
 use Rattle.sched.specs.declared.Checked.TheVariants.{Passed, Refused as Faulty}
 use Rattle.sched.specs.declared.Interval.{Interval}
-use Rattle.sched.specs.declared.Unplanned.{Unplanned}
-use Rattle.sched.specs.declared.Unplanned.TheVariants.{Refused, Overloaded}
-use Rattle.sched.specs.declared.Early.{Early}
-use Rattle.sched.specs.declared.Early.TheVariants.{Ended, Open}
+use Rattle.sched.specs.declared.Outcome.{Outcome}
+use Rattle.sched.specs.declared.Outcome.TheVariants.{Overloaded, Refused}
 
 module _ (J : Jobs) (have : ℕ) where
   -- the tests of `early_answer`, each as a function of what it tests
-  after_step_one : Option Interval → Early
-  after_step_one none = Open
-  after_step_one (some i) = Ended (Overloaded i)
+  after_step_one : Option Interval → Option Outcome
+  after_step_one none = none
+  after_step_one (some i) = some (Overloaded i)
 
-  after_checks : Checked → Early
-  after_checks (Faulty r) = Ended (Refused r)
+  after_checks : Checked → Option Outcome
+  after_checks (Faulty r) = some (Refused r)
   after_checks Passed = after_step_one (shown_overload J)
 
-  pub early_faulty : (r : Refusal) → check_of J ≡ Faulty r → early_answer J have ≡ Ended (Refused r)
+  pub early_faulty : (r : Refusal) → check_of J ≡ Faulty r → early_answer J have ≡ some (Refused r)
   unfolding early_answer after_checks after_step_one
   early_faulty r e = ap after_checks (then_fails (check_of J) (length_check have J.horizon) r e)
 
-  pub early_length : (r : Refusal) → check_of J ≡ Passed → length_check have J.horizon ≡ Faulty r → early_answer J have ≡ Ended (Refused r)
+  pub early_length : (r : Refusal) → check_of J ≡ Passed → length_check have J.horizon ≡ Faulty r → early_answer J have ≡ some (Refused r)
   unfolding early_answer after_checks after_step_one
   early_length r e l = ap after_checks (then_passes (check_of J) (length_check have J.horizon) e ∙ l)
 
-  pub early_short : check_of J ≡ Passed → have < J.horizon → early_answer J have ≡ Ended (Refused (TooShort J.horizon))
+  pub early_short : check_of J ≡ Passed → have < J.horizon → early_answer J have ≡ some (Refused (TooShort J.horizon))
   early_short e l = early_length (TooShort J.horizon) e (length_fails have J.horizon l)
 
   -- a list that passes the checks, lent a long enough table, comes to step 1
@@ -44,37 +42,37 @@ module _ (J : Jobs) (have : ℕ) where
     checked : and_then (check_of J) (length_check have J.horizon) ≡ Passed
     checked = then_passes (check_of J) (length_check have J.horizon) (passes_passed J p) ∙ length_passes have J.horizon l
 
-    pub early_overload : (i : Interval) → shown_overload J ≡ some i → early_answer J have ≡ Ended (Overloaded i)
+    pub early_overload : (i : Interval) → shown_overload J ≡ some i → early_answer J have ≡ some (Overloaded i)
     unfolding early_answer after_checks after_step_one
     early_overload i e = ap after_checks checked ∙ ap after_step_one e
 
-    pub early_none : shown_overload J ≡ none → early_answer J have ≡ Open
+    pub early_none : shown_overload J ≡ none → early_answer J have ≡ none
     unfolding early_answer after_checks after_step_one
     early_none e = ap after_checks checked ∙ ap after_step_one e
 
   -- where there is no answer yet, the list has passed the checks, the table is long enough, and no interval is shown
-  none_shown : (o : Option Interval) → after_step_one o ≡ Open → o ≡ none
+  none_shown : (o : Option Interval) → after_step_one o ≡ none → o ≡ none
   unfolding after_step_one
   none_shown none e = refl
   none_shown (some i) e = let z : ◌≡◌ {A = ℕ} 0 1 = cc in absurd (omega arith)
 
-  none_refused : (c : Checked) → after_checks c ≡ Open → (c ≡ Passed) × (shown_overload J ≡ none)
+  none_refused : (c : Checked) → after_checks c ≡ none → (c ≡ Passed) × (shown_overload J ≡ none)
   unfolding after_checks
   none_refused (Faulty r) e = let z : ◌≡◌ {A = ℕ} 0 1 = cc in absurd (omega arith)
   none_refused Passed e = (refl, none_shown (shown_overload J) e)
 
-  pub early_open : early_answer J have ≡ Open → Passes J × (J.horizon ≤ have) × (shown_overload J ≡ none)
+  pub early_open : early_answer J have ≡ none → Passes J × (J.horizon ≤ have) × (shown_overload J ≡ none)
   unfolding early_answer after_checks after_step_one
   early_open e =
       let (passed, nothing) = none_refused (and_then (check_of J) (length_check have J.horizon)) e in
       let (list, table) = then_passed (check_of J) (length_check have J.horizon) passed in
       (passed_passes J list, length_good have J.horizon table, nothing)
 
-module _ {A : Type 0} (says : Says A) (steps : Jobs → List ℕ → PlanOf A) (J : Jobs) (lent : List ℕ) where
-  pub plan_ended : (u : Unplanned) → early_answer J (length lent) ≡ Ended u → plan_by says steps J lent ≡ record { answer = say says u; table = lent }
+module _ (steps : Jobs → List ℕ → Plan) (J : Jobs) (lent : List ℕ) where
+  pub plan_ended : (answer : Outcome) → early_answer J (length lent) ≡ some answer → plan_by steps J lent ≡ record { answer = answer; table = lent }
   unfolding plan_by
-  plan_ended u e = rw (e, plan_by)
+  plan_ended answer e = rw (e, plan_by)
 
-  pub plan_goes_on : early_answer J (length lent) ≡ Open → plan_by says steps J lent ≡ steps J lent
+  pub plan_goes_on : early_answer J (length lent) ≡ none → plan_by steps J lent ≡ steps J lent
   unfolding plan_by
   plan_goes_on e = rw (e, plan_by)

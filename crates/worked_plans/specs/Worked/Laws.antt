@@ -10,11 +10,10 @@ use Rattle.sched.specs.Jobs.{Jobs}
 use Rattle.sched.specs.Slots.{awake_of}
 use Rattle.sched.specs.Energy.{runs, energy}
 use Rattle.sched.specs.Feasible.Laws.{feasible_test, test_feasible}
-use Rattle.sched.specs.declared.Early.TheVariants.{Open}
 use Rattle.steps.specs.Skeleton.{least_skeleton}
 use Rattle.steps.specs.Extension.{woken}
 use Rattle.steps.specs.Steps.{plan_table}
-use Rattle.steps.specs.Outcomes.{Plan, early_answer, planned, in_outcome, plan}
+use Rattle.steps.specs.Outcomes.{Plan, early_answer, planned, plan}
 use Rattle.steps.specs.Outcomes.Laws.{plan_goes_on}
 use Rattle.worked_plans.specs.Worked.{Worked, Rival, Row, order_for, sevens, found, Cheaper, Right}
 
@@ -64,11 +63,11 @@ all_right (x ∷ rows) same cheaper row m =
     go first (inr i) ih = ih i
 
 -- of a list that comes to the steps
-pub row_steps : (J : Jobs) (w : Worked) → found J ≡ w → early_answer J (length (sevens J)) ≡ Open →
+pub row_steps : (J : Jobs) (w : Worked) → found J ≡ w → early_answer J (length (sevens J)) ≡ none →
     (plan_table J ++ drop J.horizon (sevens J) ≡ w.table) × (woken J (least_skeleton J) ≡ w.order)
 unfolding found order_for plan planned
 row_steps J w e unanswered =
-    let on = plan_goes_on in_outcome planned J (sevens J) unanswered in (
+    let on = plan_goes_on planned J (sevens J) unanswered in (
       ap (λ (x : Plan). x.table) (sym on) ∙ ap (λ (x : Worked). x.table) e,
       ap (λ (x : Plan). order_for J x.answer) (sym on) ∙ ap (λ (x : Worked). x.order) e,
     )
