@@ -1,9 +1,8 @@
--- 01, "From list to table" and "Refused, and where": the planner's answer and what a lent table holds afterwards, for every input; and the
--- number and the values that 01 gives each case of the answer.
-use Rattle.std.specs.Prelude.{ℕ, List, [], ◌∷◌, ◌++◌, length, drop}
+-- 01, "From list to table" and "Refused, and where": the planner's answer and what a lent table holds afterwards, for every input. The
+-- number and the values that 01 gives each case of the answer are in `sched/specs/Answers`.
+use Rattle.std.specs.Prelude.{ℕ, List, ◌++◌, length, drop}
 use Rattle.std.proofs.Math.Option.{Option, none, some}
 use Rattle.sched.specs.Jobs.{Jobs}
-use Rattle.sched.specs.Refusals.{number, place}
 use Rattle.sched.specs.Checks.{and_then, length_check, check_of}
 use Rattle.sched.specs.Slots.{awake_of}
 use Rattle.sched.specs.Energy.{awake_slots, runs, energy}
@@ -50,15 +49,3 @@ planned J lent =
 -- the plan of 01, with cards 5, 6 and 10 of 02
 unfoldable pub plan : Jobs → List ℕ → Plan
 plan J lent = plan_by planned J lent
-
--- planned is 0, overloaded 18, a refusal its own number
-abbrev pub outcome_number : Outcome → ℕ
-outcome_number (Planned f) = 0
-outcome_number (Overloaded i) = 18
-outcome_number (Refused r) = number r
-
--- the four figures; a and b; the place
-abbrev pub outcome_values : Outcome → List ℕ
-outcome_values (Planned f) = f.energy ∷ f.awake ∷ f.runs ∷ f.added ∷ []
-outcome_values (Overloaded i) = i.a ∷ i.b ∷ []
-outcome_values (Refused r) = place r ∷ []
