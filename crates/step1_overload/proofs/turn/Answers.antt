@@ -39,7 +39,7 @@ overflow_cast-units c =
 pub overflow_cast-left : goal.overflow_cast-left
 overflow_cast-left c =
     let a = c.args in
-    omega (arith, c.type_inv.left (get_or a.ranks.now (count_trailing_zeros 64 a.last.waiting) 0))
+    omega (arith, c.slice_known-2-1.given (get_or a.ranks.now (count_trailing_zeros 64 a.last.waiting) 0))
 
 pub offset_bounds-left-job-then-room-units : goal.offset_bounds-left-job-then-room-units
 offset_bounds-left-job-then-room-units c = omega (arith, c.type_inv.ranks (count_trailing_zeros 64 c.args.last.waiting))

@@ -1,0 +1,19 @@
+-- `grow::first_near` meets its contract: up to the first awake slot all sleep.
+use Rattle.step3_extend.proofs.Reading.{sleeping_start, sleeping_turn, alone_none, alone_before}
+use Prim.Native.Nat.{◌-◌}
+use Rattle.step3_extend.proofs.grow.first_near.Goals as goal
+
+pub loop-t-init : goal.loop-t-init
+loop-t-init c = sleeping_start _
+
+pub returns-then-t-eq0 : goal.returns-then-t-eq0
+returns-then-t-eq0 c = alone_none _
+
+pub returns-then-table-t : goal.returns-then-table-t
+returns-then-table-t c = alone_before _ _ c.loop-t.invariant
+
+pub loop-t-preserved : goal.loop-t-preserved
+loop-t-preserved c = sleeping_turn _ _ c.loop-t-test.true c.if-table-t.false c.loop-t.invariant
+
+pub returns : goal.returns
+returns c = alone_none _
