@@ -36,11 +36,10 @@ search-smaller-then-is_next c = omega (arith, growing_inside c.search.invariant.
 
 pub search-preserved-then-is_next : goal.search-preserved-then-is_next
 search-preserved-then-is_next c =
-    let kept = c.wake.auto.lost in
     grown_step c.search.invariant
     (λ K g. growing_vain g c.first_due_after-first.ensures c.loop-short-test.true _ c.is_next.ensures c.if-is_next.true
     c.wake.ensures c.if-wake.false)
-    c.first_due_after-first.ensures.within kept.0 kept.1.0 kept.1.1.0 kept.1.1.1.0 kept.1.1.1.1.0 kept.1.1.1.1.1.0
+    c.first_due_after-first.ensures.within c.wake.auto.lost c.wake.auto.reach c.wake.auto.ends c.wake.auto.table c.wake.auto.takers c.wake.auto.taken
 
 pub overflow_add-cursor-else-is_next : goal.overflow_add-cursor-else-is_next
 overflow_add-cursor-else-is_next c = omega (arith, growing_small c.search.invariant.now c.loop-short-test.true)
@@ -63,11 +62,10 @@ overflow_add-added c =
 
 pub loop-short-preserved : goal.loop-short-preserved
 loop-short-preserved c =
-    let kept = c.wake.auto.lost in
     grown_step (grown_through c.loop-short.invariant c.search.invariant)
     (λ K g. growing_turn g c.first_due_after-first.ensures c.loop-short-test.true _ c.is_next.ensures c.if-is_next.true
     c.wake.ensures c.if-wake.true _ c.go_on_from-cursor.ensures)
-    c.first_due_after-first.ensures.within kept.0 kept.1.0 kept.1.1.0 kept.1.1.1.0 kept.1.1.1.1.0 kept.1.1.1.1.1.0
+    c.first_due_after-first.ensures.within c.wake.auto.lost c.wake.auto.reach c.wake.auto.ends c.wake.auto.table c.wake.auto.takers c.wake.auto.taken
 
 pub shape_of-lost : goal.shape_of-lost
 shape_of-lost c = c.loop-short.invariant.same_lost
