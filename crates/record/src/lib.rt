@@ -6,7 +6,7 @@ ghost use Rattle.sched.specs.declared.Checked.TheVariants.{Passed};
 ghost use Rattle.record_parts.specs.Bytes.{record_check};
 ghost use Rattle.record.specs.Record.{WritesSlots, Writes};
 ghost use Rattle.record.specs.Reading.{Reads};
-ghost use Rattle.record.specs.OneRun.{Finds, HandsOut};
+ghost use Rattle.record.specs.OneRun.{run_part, Finds, HandsOut};
 
 use sched::{Checked, Refusal};
 
@@ -115,24 +115,17 @@ pub fn find_run(bytes: &[u8], k: usize) -> RunFound
     }
 }
 
-// The slot bytes of run k, as that part of the record itself; none where `find_run` refuses. The two numbers beside tell 0 and the part's offset, or
-// number and place of the refusal.
-pub fn run_bytes<'a>(bytes: &'a [u8], k: usize, number: &mut u32, place: &mut usize) -> &'a [u8]
-    ensures { HandsOut bytes.entry k result number.new place.new }
+// The slot bytes of run k, as that part of the record; none where `find_run` refuses.
+pub fn run_bytes(bytes: &[u8], k: usize) -> &[u8]
+    ensures part { result.now ≡ run_part bytes.now k }
+    ensures place { HandsOut bytes.entry k result }
 {
     match find_run(bytes, k) {
         RunFound::Found(part) => {
             let from = part.offset;
             let to = from + part.len;
-            *number = 0;
-            *place = from;
             &bytes[from..to]
         }
-        RunFound::Refused(r) => {
-            let none = 0;
-            *number = r.number();
-            *place = r.place();
-            &bytes[none..none]
-        }
+        RunFound::Refused(_) => &bytes[..0],
     }
 }
