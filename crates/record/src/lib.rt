@@ -13,19 +13,19 @@ use sched::{Checked, Refusal};
 mod runs; // runs.rt: the runs of a map
 
 // The length of a record, and the awake slots, which are the slot bytes in it.
-#[derive(Drop)]
+#[derive(Clone, Copy)]
 pub struct RecordSize {
     pub bytes: usize,
     pub awake: usize,
 }
 
-#[derive(Drop)]
+#[derive(Clone, Copy)]
 pub enum RecordWritten {
     Written(RecordSize),
     Refused(Refusal),
 }
 
-#[derive(Drop)]
+#[derive(Clone, Copy)]
 pub enum RecordRead {
     // The horizon.
     Read(u16),
@@ -33,14 +33,14 @@ pub enum RecordRead {
 }
 
 // A run's first slot, and where its slot bytes stand in the record: their offset and how many they are.
-#[derive(Drop)]
+#[derive(Clone, Copy)]
 pub struct RunPlace {
     pub first: usize,
     pub offset: usize,
     pub len: usize,
 }
 
-#[derive(Drop)]
+#[derive(Clone, Copy)]
 pub enum RunFound {
     Found(RunPlace),
     Refused(Refusal),
