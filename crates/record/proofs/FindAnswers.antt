@@ -1,13 +1,12 @@
 -- The answer about a run in each case, and the part of the record that it tells of.
 use Prim.Native.Nat.{ℕ, ◌+◌, ◌-◌}
-use mathlib.Core.Path.{◌≡◌, refl, sym, ap, ap₂, ◌∙◌}
+use mathlib.Core.Path.{◌≡◌, sym, ap, ap₂, ◌∙◌}
 use mathlib.Core.Bool.{Bool}
-use mathlib.Core.List.{List, [], ◌∷◌}
+use mathlib.Core.List.{List, []}
 use native.Mathlib.Omega.{arith}
-use lib.ListN.{length, take, drop}
+use lib.ListN.{take, drop}
 use denote.Ref.{Bor}
 use Rattle.sched.specs.TwoBytes.{word}
-use Rattle.sched.specs.Refusals.{number, place}
 use Rattle.sched.specs.Checks.Laws.{then_fails, then_passes}
 use Rattle.sched.specs.declared.Checked.TheVariants.{Passed, Refused as Faulty}
 use Rattle.sched.specs.declared.Refusal.{Refusal}
@@ -17,7 +16,7 @@ use Rattle.record.specs.declared.RunFound.TheVariants.{Found, Refused}
 use Rattle.record_map.specs.MapBits.{bits_of}
 use Rattle.record_parts.specs.Layout.{behind_map}
 use Rattle.record_parts.specs.Bytes.{slots_in, record_check}
-use Rattle.record.specs.OneRun.{exists_check, run_answer, run_in, part_of, part_from, found_number, found_values, Finds, told_place, HandsOut}
+use Rattle.record.specs.OneRun.{exists_check, run_answer, run_in, part_of, run_part, part_from, found_number, found_values, Finds, HandsOut}
 use Rattle.record.proofs.Opened.{map_is}
 
 finds : (bytes : List ℕ) (k : ℕ) (answer : RunFound) → answer ≡ run_in bytes k → Finds bytes k answer
@@ -39,34 +38,19 @@ searched bytes k p h e behind f answer a =
     ∙ ap₂ (λ (T : List Bool) (b : ℕ). run_answer T b k (exists_check T k)) is (f ∙ ap behind_map e)
     ∙ sym (ap (run_answer (slots_in bytes) (behind_map (word bytes)) k) (then_passes (record_check bytes) (exists_check (slots_in bytes) k) p)))
 
--- what `find_run` answered, handed out and told
+module _ (bytes : List ℕ) (k : ℕ) (answer : RunFound) (w : Finds bytes k answer) where
+  pub part_told : (part : RunPlace) → answer ≡ Found part → take (part.offset + part.len - part.offset) (drop part.offset bytes) ≡ run_part bytes k
+  part_told part e =
+      let q : part.offset + part.len - part.offset ≡ part.len = omega arith in
+      ap (λ (n : ℕ). take n (drop part.offset bytes)) q ∙ ap (part_of bytes) (sym e ∙ w.same)
 
-empty : (l : List ℕ) → length l ≡ 0 → l ≡ []
-empty [] e = refl
-empty (x ∷ l) e = absurd (omega arith)
+  pub no_part : (r : Refusal) → answer ≡ Refused r → [] ≡ run_part bytes k
+  no_part r e = ap (part_of bytes) (sym e ∙ w.same)
 
-module _ (lent : Bor (List ℕ)) (k : ℕ) (answer : RunFound) (w : Finds lent.now k answer) (handed : Bor (List ℕ)) (told at : ℕ) where
-  pub part_handed : (part : RunPlace) → answer ≡ Found part → handed.now ≡ take (part.offset + part.len - part.offset) (drop part.offset lent.now) →
-      handed.ref_ptr.0 ≡ lent.ref_ptr.0 → handed.ref_ptr.1 ≡ lent.ref_ptr.1 + part.offset → told ≡ 0 → at ≡ part.offset → HandsOut lent k handed told at
-  part_handed part e b p o n a =
-      let is : Found part ≡ run_in lent.now k = sym e ∙ w.same in
-      let many : part.offset + part.len - part.offset ≡ part.len = omega arith in
-      record {
-        bytes = b ∙ ap (λ (x : ℕ). take x (drop part.offset lent.now)) many ∙ ap (part_of lent.now) is;
-        block = p;
-        offset = o ∙ ap (λ (x : RunFound). lent.ref_ptr.1 + part_from x) is;
-        number = n ∙ ap found_number is;
-        place = a ∙ ap told_place is;
-      }
+-- where it stands
+module _ (lent : Bor (List ℕ)) (k : ℕ) (answer : RunFound) (w : Finds lent.now k answer) (handed : Bor (List ℕ)) (b : handed.ref_ptr.0 ≡ lent.ref_ptr.0) where
+  pub part_placed : (part : RunPlace) → answer ≡ Found part → handed.ref_ptr.1 ≡ lent.ref_ptr.1 + part.offset → HandsOut lent k handed
+  part_placed part e o = record { block = b; offset = o ∙ ap (λ (x : RunFound). lent.ref_ptr.1 + part_from x) (sym e ∙ w.same) }
 
-  pub none_handed : (r : Refusal) → answer ≡ Refused r → length handed.now ≡ 0 → handed.ref_ptr.0 ≡ lent.ptr.0 → handed.ref_ptr.1 ≡ lent.ptr.1 →
-      told ≡ number r → at ≡ place r → HandsOut lent k handed told at
-  none_handed r e b p o n a =
-      let is : Refused r ≡ run_in lent.now k = sym e ∙ w.same in
-      record {
-        bytes = empty handed.now b ∙ ap (part_of lent.now) is;
-        block = p;
-        offset = omega (arith, o, ap part_from is);
-        number = n ∙ ap found_number is;
-        place = a ∙ ap told_place is;
-      }
+  pub none_placed : (r : Refusal) → answer ≡ Refused r → handed.ref_ptr.1 ≡ lent.ref_ptr.1 → HandsOut lent k handed
+  none_placed r e o = record { block = b; offset = omega (arith, o, ap part_from (sym e ∙ w.same)) }

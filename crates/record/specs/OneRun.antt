@@ -70,16 +70,7 @@ pub record Finds (bytes : List ℕ) (k : ℕ) (answer : RunFound) : Type 0 where
   pub values : found_values answer ≡ found_values (run_in bytes k)
   pub same : answer ≡ run_in bytes k
 
--- the place that goes with the number beside a part; the part's offset with 0 is ours
-abbrev pub told_place : RunFound → ℕ
-told_place (Found part) = part.offset
-told_place (Refused r) = place r
-
--- the promise of what hands out a run: its bytes; that they are "that part of the record itself", by where the two references point, a block and an
--- offset; and the number and place that are told beside
-pub record HandsOut (lent : Bor (List ℕ)) (k : ℕ) (handed : Bor (List ℕ)) (told at : ℕ) : Type 0 where
-  pub bytes : handed.now ≡ run_part lent.now k
+-- where the part handed out stands: in the block of the lent record, at its beginning plus the offset that `find_run` tells
+pub record HandsOut (lent : Bor (List ℕ)) (k : ℕ) (handed : Bor (List ℕ)) : Type 0 where
   pub block : handed.ref_ptr.0 ≡ lent.ref_ptr.0
   pub offset : handed.ref_ptr.1 ≡ lent.ref_ptr.1 + part_from (run_in lent.now k)
-  pub number : told ≡ found_number (run_in lent.now k)
-  pub place : at ≡ told_place (run_in lent.now k)

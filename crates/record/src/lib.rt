@@ -6,26 +6,26 @@ ghost use Rattle.sched.specs.declared.Checked.TheVariants.{Passed};
 ghost use Rattle.record_parts.specs.Bytes.{record_check};
 ghost use Rattle.record.specs.Record.{WritesSlots, Writes};
 ghost use Rattle.record.specs.Reading.{Reads};
-ghost use Rattle.record.specs.OneRun.{Finds, HandsOut};
+ghost use Rattle.record.specs.OneRun.{run_part, Finds, HandsOut};
 
 use sched::{Checked, Refusal};
 
 mod runs; // runs.rt: the runs of a map
 
 // The length of a record, and the awake slots, which are the slot bytes in it.
-#[derive(Drop)]
+#[derive(Clone, Copy)]
 pub struct RecordSize {
     pub bytes: usize,
     pub awake: usize,
 }
 
-#[derive(Drop)]
+#[derive(Clone, Copy)]
 pub enum RecordWritten {
     Written(RecordSize),
     Refused(Refusal),
 }
 
-#[derive(Drop)]
+#[derive(Clone, Copy)]
 pub enum RecordRead {
     // The horizon.
     Read(u16),
@@ -33,14 +33,14 @@ pub enum RecordRead {
 }
 
 // A run's first slot, and where its slot bytes stand in the record: their offset and how many they are.
-#[derive(Drop)]
+#[derive(Clone, Copy)]
 pub struct RunPlace {
     pub first: usize,
     pub offset: usize,
     pub len: usize,
 }
 
-#[derive(Drop)]
+#[derive(Clone, Copy)]
 pub enum RunFound {
     Found(RunPlace),
     Refused(Refusal),
@@ -115,24 +115,17 @@ pub fn find_run(bytes: &[u8], k: usize) -> RunFound
     }
 }
 
-// The slot bytes of run k, as that part of the record itself; none where `find_run` refuses. The two numbers beside tell 0 and the part's offset, or
-// number and place of the refusal.
-pub fn run_bytes<'a>(bytes: &'a [u8], k: usize, number: &mut u32, place: &mut usize) -> &'a [u8]
-    ensures { HandsOut bytes.entry k result number.new place.new }
+// The slot bytes of run k, as that part of the record; none where `find_run` refuses.
+pub fn run_bytes(bytes: &[u8], k: usize) -> &[u8]
+    ensures part { result.now ≡ run_part bytes.now k }
+    ensures place { HandsOut bytes.entry k result }
 {
     match find_run(bytes, k) {
         RunFound::Found(part) => {
             let from = part.offset;
             let to = from + part.len;
-            *number = 0;
-            *place = from;
             &bytes[from..to]
         }
-        RunFound::Refused(r) => {
-            let none = 0;
-            *number = r.number();
-            *place = r.place();
-            &bytes[none..none]
-        }
+        RunFound::Refused(_) => &bytes[..0],
     }
 }

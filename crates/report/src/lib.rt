@@ -9,7 +9,7 @@ use sched::{Checked, Outcome, Refusal};
 mod line; // line.rt: a word and numbers behind it
 mod runs; // runs.rt: a line for each run of a table
 
-#[derive(Drop)]
+#[derive(Clone, Copy)]
 pub enum TextWritten {
     // The length of the text.
     Written(usize),

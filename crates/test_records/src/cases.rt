@@ -19,12 +19,10 @@ pub fn read_within(bytes: &[u8], table: &mut [u8], n: usize) {
 
 // Prints ` run`, k, the answer for run k, and length and digest of its part of the record.
 pub fn run(bytes: &[u8], k: usize) {
-    let mut told = 0;
-    let mut place = 0;
     test_bytes::text(b" run");
     number(k as u64);
     show::found(record::find_run(bytes, k));
-    let part = record::run_bytes(bytes, k, &mut told, &mut place);
+    let part = record::run_bytes(bytes, k);
     number(part.len() as u64);
     number(test_bytes::digest(part));
 }

@@ -5,7 +5,6 @@
 
 mod show; // show.rt: answers as text
 mod cases; // cases.rt: the calls on one record, printed
-mod told; // told.rt: what is told beside the part of a run
 mod worked; // worked.rt: the three records of the documents
 mod cuts; // cuts.rt: cut records, bytes left over, horizons
 mod padding; // padding.rt: bits of the last map byte
@@ -30,7 +29,6 @@ fn refusals() {
     order::each();
     limits::tables();
     limits::runs();
-    told::each();
 }
 
 fn main() {

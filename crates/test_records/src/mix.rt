@@ -54,26 +54,12 @@ pub fn read(sum: u64, bytes: &[u8], table: &mut [u8]) -> Answer {
     }
 }
 
-// Whether number and place that are told beside a part are those of the answer for the run; with a run its offset is the place.
-fn is_told(answer: RunFound, number: u32, place: usize) -> bool {
-    match answer {
-        RunFound::Found(part) => number == 0 && place == part.offset,
-        RunFound::Refused(r) => number == r.number() && place == r.place(),
-    }
-}
-
-// The answer for run k, and length and digest of its part of the record; nothing of the part where something else is told beside it.
+// The answer for run k, and length and digest of its part of the record.
 pub fn run(sum: u64, bytes: &[u8], k: usize) -> Answer {
-    let mut number = 99;
-    let mut place = 99;
-    let found = record::find_run(bytes, k);
-    let m = finding(sum, found);
-    let part = record::run_bytes(bytes, k, &mut number, &mut place);
-    if is_told(found, number, place) {
-        return Answer {
-            number: m.number,
-            sum: mixed(mixed(m.sum, part.len() as u64), test_bytes::digest(part)),
-        };
+    let m = finding(sum, record::find_run(bytes, k));
+    let part = record::run_bytes(bytes, k);
+    Answer {
+        number: m.number,
+        sum: mixed(mixed(m.sum, part.len() as u64), test_bytes::digest(part)),
     }
-    m
 }

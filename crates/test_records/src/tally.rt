@@ -4,7 +4,7 @@ use super::mix::Answer;
 use test_bytes::{count, entry, number};
 
 // The numbers of the first read, of the second, and of run 0, and the digest.
-#[derive(Drop)]
+#[derive(Clone, Copy)]
 pub struct Answers {
     pub first: u32,
     pub second: u32,

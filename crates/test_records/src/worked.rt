@@ -1,5 +1,5 @@
 // The record that 01 works by hand, the one that card 5 of 02 puts in its place, and the record of docs/BYTES.md.
-use super::{cases, told};
+use super::cases;
 
 // The first: 12 bytes, and two more that are no part of it.
 pub const PAPER: [u8; 14] = [10, 0, 63, 3, 0, 2, 2, 2, 2, 2, 1, 1, 0, 255];
@@ -19,16 +19,13 @@ fn read(bytes: &[u8], table: &mut [u8]) {
     test_bytes::bytes(table);
 }
 
-// Prints two lines: `worked` and what `cases::run` prints of run k; `part` and the bytes of the run. Then a line of `told::run`.
+// Prints two lines: `worked` and what `cases::run` prints of run k; `part` and the bytes of the run.
 fn run(bytes: &[u8], k: usize) {
-    let mut number = 0;
-    let mut place = 0;
     test_bytes::text(b"worked");
     cases::run(bytes, k);
     test_bytes::end_line();
     test_bytes::text(b"part");
-    test_bytes::bytes(record::run_bytes(bytes, k, &mut number, &mut place));
-    told::run(bytes, k);
+    test_bytes::bytes(record::run_bytes(bytes, k));
 }
 
 // The runs 0 to 3 and 2^64 - 1, printed so.

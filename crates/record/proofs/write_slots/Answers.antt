@@ -1,0 +1,52 @@
+-- `record::write_slots` meets its contract: the ones of the map give the length, which is tested before anything is written.
+use Prim.Native.Nat.{◌+◌}
+use mathlib.Core.Path.{refl, sym, ◌∙◌}
+use mathlib.Core.Bool.{not}
+use native.Mathlib.Omega.{arith}
+use lib.ListN.{length, length-map}
+use lib.Dec.{eqb}
+use Rattle.sched.specs.Checks.Laws.{length_good}
+use Rattle.sched.specs.Slots.{awake_of}
+use Rattle.record_map.specs.MapBytes.{map_length}
+use Rattle.record_map.specs.MapBytes.Laws.{ones_of_slots, map_ones_few}
+use Rattle.record_parts.specs.Layout.Laws.{record_size}
+use Rattle.record.proofs.Answers.{no_room, room}
+use Rattle.record.proofs.write_slots.Goals as goal
+
+pub overflow_add-bytes : goal.overflow_add-bytes
+overflow_add-bytes c =
+    let slots = c.args.slots.now in
+    omega (
+      arith,
+      c.count_awake-awake.ensures,
+      map_ones_few (map_length (length (awake_of slots))) 0 (awake_of slots),
+      length-map slots (λ byte. not (eqb byte 255)),
+    )
+
+pub fill_record-requires : goal.fill_record-requires
+fill_record-requires c =
+    let args = c.args in
+    let bytes = 2 + map_length (length args.slots.now) + c.count_awake-awake.result in
+    record {
+      few = c.requires;
+      start = refl;
+      room =
+          omega (
+            arith,
+            record_size args.h args.slots.now _ c.count_awake-awake.ensures,
+            length_good (length args.out.now) bytes (sym c.check_length.ensures.same ∙ c.in-Passed.is),
+          );
+    }
+
+pub returns-in-Passed : goal.returns-in-Passed
+returns-in-Passed c =
+    let args = c.args in
+    room _ _ _ _ (record_size args.h args.slots.now _ c.count_awake-awake.ensures) _ _
+    (sym c.check_length.ensures.same ∙ c.in-Passed.is)
+    (c.count_awake-awake.ensures ∙ ones_of_slots args.slots.now) c.fill_record.ensures
+
+pub returns-in-Refused : goal.returns-in-Refused
+returns-in-Refused c =
+    let args = c.args in
+    no_room _ _ _ _ (record_size args.h args.slots.now _ c.count_awake-awake.ensures) _
+    (sym c.check_length.ensures.same ∙ c.in-Refused.is)

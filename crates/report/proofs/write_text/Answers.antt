@@ -1,0 +1,54 @@
+-- `write_text` meets its contract: the length is tested before anything is put, and the lines of the runs stand behind the first one.
+use Prim.Native.Nat.{◌+◌, ◌≤◌}
+use mathlib.Core.Path.{◌≡◌, sym, ◌∙◌}
+use mathlib.Core.List.{◌++◌}
+use native.Mathlib.Omega.{arith}
+use lib.ListN.{length}
+use Rattle.sched.specs.Checks.Laws.{length_good}
+use Rattle.report.specs.Report.{line, run_lines}
+use Rattle.report.specs.Report.Laws.{line_length, numbers_few}
+use Rattle.report.proofs.Stretches.{lines_most}
+use Rattle.report.proofs.Answers.{text_size, text_put, no_room, has_room}
+use Rattle.report.proofs.write_text.Goals as goal
+
+pub overflow_add-n : goal.overflow_add-n
+overflow_add-n c =
+    omega (
+      arith,
+      c.size.ensures,
+      c.size-2.ensures,
+      line_length c.args.word.now c.args.values.now,
+      numbers_few c.args.values.now,
+      c.requires.short,
+      c.requires.few,
+      lines_most c.args.slots.now c.requires.within,
+    )
+
+pub put-behind-requires : goal.put-behind-requires
+put-behind-requires c =
+    let fits : c.size.result + c.size-2.result ≤ length c.args.out.now = length_good (length c.args.out.now) (c.size.result + c.size-2.result)
+    (sym c.check_length.ensures.same ∙ c.in-Passed.is) in
+    omega (arith, fits, c.size.ensures)
+
+pub put-requires : goal.put-requires
+put-requires c =
+    let fits : c.size.result + c.size-2.result ≤ length c.args.out.now = length_good (length c.args.out.now) (c.size.result + c.size-2.result)
+    (sym c.check_length.ensures.same ∙ c.in-Passed.is) in
+    omega (arith, fits, c.size.ensures, c.size-2.ensures, c.put-behind.ensures.next, c.put-behind.auto.out)
+
+pub returns-in-Passed : goal.returns-in-Passed
+returns-in-Passed c =
+    let size_is : c.size.result + c.size-2.result ≡ length (line c.args.word.now c.args.values.now ++ run_lines c.args.slots.now) = let a = c.args in
+    text_size a.word.now a.values.now a.slots.now _ _ c.size.ensures c.size-2.ensures in
+    let fits : c.size.result + c.size-2.result ≤ length c.args.out.now = length_good (length c.args.out.now) (c.size.result + c.size-2.result)
+    (sym c.check_length.ensures.same ∙ c.in-Passed.is) in
+    let a = c.args in
+    has_room _ _ _ (size_is) _ (sym c.check_length.ensures.same ∙ c.in-Passed.is)
+    (text_put (line a.word.now a.values.now) (run_lines a.slots.now) a.out.now _ _ _ _ (omega (arith, fits, size_is))
+    c.put-behind.ensures c.put.ensures)
+
+pub returns-in-Refused : goal.returns-in-Refused
+returns-in-Refused c =
+    let size_is : c.size.result + c.size-2.result ≡ length (line c.args.word.now c.args.values.now ++ run_lines c.args.slots.now) = let a = c.args in
+    text_size a.word.now a.values.now a.slots.now _ _ c.size.ensures c.size-2.ensures in
+    no_room _ _ _ (size_is) _ (sym c.check_length.ensures.same ∙ c.in-Refused.is)
