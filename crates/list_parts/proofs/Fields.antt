@@ -1,9 +1,10 @@
 -- The fields of an entry where their bits stand, and the ways out of the checks of an entry.
-use Prim.Native.Nat.{ℕ, ◌+◌, ◌*◌}
+use Prim.Native.Nat.{ℕ, ◌+◌, ◌*◌, ◌<◌}
 use mathlib.Core.Path.{◌≡◌, refl, sym, ap, ◌∙◌}
 use mathlib.Core.Bool.{Bool, true, false, ◌&&◌}
 use mathlib.Core.List.{List}
 use native.Mathlib.Nat.{add-zero}
+use native.Mathlib.Omega.{arith}
 use lib.ListN.{length, get_or, drop}
 use lib.Seq.{get_or-drop}
 use lib.Dec.{ltb, eqb}
@@ -19,6 +20,7 @@ use Rattle.list_parts.specs.Layout.{deadline_at, volume_at}
 use Rattle.list_parts.specs.Entries.{entry_map, entry_size, value_if, redundant, known_maps, map_check, whole_check, redundancy_check, fault_check}
 use Rattle.list_parts.specs.Entries.{entry_check}
 use Rattle.list_parts.specs.Parts.{FoundAt, fields_of, entry_of, job_part}
+use Rattle.list_parts.specs.Laws.Maps.{length_is}
 use Rattle.list_parts.specs.Laws.Parts.{told_read, told_refused}
 use Rattle.list_parts.specs.declared.entry.Found.{Found}
 use Rattle.list_parts.specs.declared.entry.Fields.{Fields}
@@ -78,11 +80,12 @@ module _ (h at : ℕ) (bs : List ℕ) where
   unfolding redundancy_check
   volume_refused a b c = rw (b.next, a.tested, b.tested, c.tested)
 
-  pub fields_read : {r d p : Found} → First bs r false → Second h bs d false → Third bs p false →
-      Read (record { release = r.value; deadline = d.value; volume = p.value; end = p.next }) ≡ fields
+  pub fields_read : {r d p : Found} → entry_map bs < known_maps → First bs r false → Second h bs d false → Third bs p false →
+      Read (record { release = r.value; deadline = d.value; volume = p.value; size = p.next }) ≡ fields
   unfolding redundancy_check
-  fields_read a b c =
-      ap Read (λ i. record { release = a.value i; deadline = b.value i; volume = c.value i; end = c.next i })
+  fields_read known a b c =
+      let size = c.next ∙ sym (length_is (entry_map bs) known) in
+      ap Read (λ i. record { release = a.value i; deadline = b.value i; volume = c.value i; size = size i })
       ∙ rw (a.tested, b.tested, c.tested)
 
 -- the job, once its fields are read

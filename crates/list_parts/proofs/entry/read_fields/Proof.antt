@@ -4,16 +4,19 @@ use mathlib.Core.Path.{◌≡◌, refl, ap}
 use mathlib.Core.Bool.{Bool, true, false}
 use native.Mathlib.Omega.{arith}
 use lib.ListN.{length}
-use Prim.Native.Nat.{◌≤◌}
-use Rattle.list_parts.specs.Layout.{width, fields_end}
+use Prim.Native.Nat.{◌+◌, ◌≤◌}
+use Rattle.list_parts.specs.Layout.{has_volume, width, volume_at}
 use Rattle.list_parts.specs.Entries.{entry_map}
+use Rattle.list_parts.specs.Laws.Maps.{length_is}
 use Rattle.list_parts.proofs.Fields.{First, Second, Third, field_read, release_refused, deadline_refused, volume_refused, fields_read}
 use Rattle.list_parts.proofs.entry.read_fields.Statement.{statement}
 use Rattle.list_parts.proofs.entry.read_fields.Tie as tie
 
 -- all three fields are there
-long : (s : tie.Start) → fields_end (entry_map s.args.bytes.now) ≤ length s.args.bytes.now
-long s = s.requires.whole
+long : (s : tie.Start) →
+    let map = entry_map s.args.bytes.now in
+    volume_at map + width (has_volume map) ≤ length s.args.bytes.now
+long s = omega (arith, length_is (entry_map s.args.bytes.now) s.requires.known, s.requires.whole)
 
 -- the start, seen from the test of each field
 abbrev at_1 : tie.After-is-redundant → tie.Start
@@ -114,7 +117,7 @@ returns_4 c =
     let test = c.before in
     let a = (at_3 test).args in
     let left = test.before.before.before in
-    fields_read a.h a.at a.bytes.now (first_left left.before.before.before.before) (second_left left)
+    fields_read a.h a.at a.bytes.now (at_3 test).requires.known (first_left left.before.before.before.before) (second_left left)
     (third test false c.if3.false)
 
 pub read_fields_spec : {M : Type 1} → statement M

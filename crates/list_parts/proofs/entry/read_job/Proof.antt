@@ -1,16 +1,11 @@
 -- `entry::read_job` meets its contract: 14 decides, and where it passes the check of the job does.
 use borrow.Author.Rules.{rules}
-use native.Mathlib.Omega.{arith}
-use Rattle.list_parts.specs.Entries.{entry_map}
-use Rattle.list_parts.specs.Laws.Maps.{length_is}
 use Rattle.list_parts.proofs.Fields.{fields_refused, job_refused, job_read}
 use Rattle.list_parts.proofs.entry.read_job.Statement.{statement}
 use Rattle.list_parts.proofs.entry.read_job.Tie as tie
 
 read_fields_requires : tie.Need-read-fields-requires
-read_fields_requires c κs =
-    let s = c.before in
-    record { whole = omega (arith, length_is (entry_map s.args.bytes.now) s.requires.known, s.requires.whole); fits = s.requires.fits }
+read_fields_requires c κs = search rules
 
 enum_known_f : tie.Need-enum-known-f
 enum_known_f c = search rules
