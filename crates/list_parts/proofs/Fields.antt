@@ -1,5 +1,5 @@
 -- The fields of an entry where their bits stand, and the ways out of the checks of an entry.
-use Prim.Native.Nat.{ℕ, ◌+◌, ◌*◌, ◌<◌}
+use Prim.Native.Nat.{ℕ, ◌+◌, ◌*◌, ◌≤◌, ◌<◌}
 use mathlib.Core.Path.{◌≡◌, refl, sym, ap, ◌∙◌}
 use mathlib.Core.Bool.{Bool, true, false, ◌&&◌}
 use mathlib.Core.List.{List}
@@ -19,13 +19,17 @@ use Rattle.list_parts.specs.Layout.{width, absent_release, absent_deadline, abse
 use Rattle.list_parts.specs.Layout.{deadline_at, volume_at}
 use Rattle.list_parts.specs.Entries.{entry_map, entry_size, value_if, redundant, known_maps, map_check, whole_check, redundancy_check, fault_check}
 use Rattle.list_parts.specs.Entries.{entry_check}
-use Rattle.list_parts.specs.Parts.{FoundAt, fields_of, entry_of, job_part}
+use Rattle.list_parts.specs.Parts.{FoundAt, WholeEntry, fields_of, entry_of, job_part}
 use Rattle.list_parts.specs.Laws.Maps.{length_is}
 use Rattle.list_parts.specs.Laws.Parts.{told_read, told_refused}
 use Rattle.list_parts.specs.declared.entry.Found.{Found}
 use Rattle.list_parts.specs.declared.entry.Fields.{Fields}
 use Rattle.list_parts.specs.declared.entry.Entry.{Entry}
 use Rattle.list_parts.specs.declared.entry.Entry.TheVariants.{Read, Refused}
+
+-- all three fields of a whole entry are there
+pub fields_there : (at : ℕ) (bs : List ℕ) → WholeEntry at bs → volume_at (entry_map bs) + width (has_volume (entry_map bs)) ≤ length bs
+fields_there at bs w = omega (arith, length_is (entry_map bs) w.known, w.whole)
 
 pub word_at : (bs : List ℕ) (at : ℕ) → get_or bs at 0 + 256 * get_or bs (at + 1) 0 ≡ word (drop at bs)
 word_at bs at = simp (get_or-drop, add-zero)
