@@ -26,9 +26,15 @@ put_field-requires c =
     let a = c.args in
     let first = c.put_field-deadline_at in
     let second = c.put_field-volume_at in
-    omega
-    (arith, entry_length a.h a.r a.d a.p, first.ensures.next, put_length _ first.new.out _ _ _ first.ensures, second.ensures.next,
-      put_length _ second.new.out _ _ _ second.ensures, length-set a.out.now a.at c.map_byte.result)
+    omega (
+      arith,
+      entry_length a.h a.r a.d a.p,
+      first.ensures.next,
+      put_length _ first.new.out _ _ _ first.ensures,
+      second.ensures.next,
+      put_length _ second.new.out _ _ _ second.ensures,
+      length-set a.out.now a.at c.map_byte.result,
+    )
 
 pub returns : goal.returns
 returns c =
