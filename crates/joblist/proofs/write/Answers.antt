@@ -1,51 +1,43 @@
 -- `write` meets its contract: the list checks and the length decide, and where they pass the bytes are put.
 use mathlib.Core.Path.{sym, ◌∙◌}
-use Prim.Native.Nat.{ℕ}
-use mathlib.Core.List.{List}
 use native.Mathlib.Omega.{arith}
 use lib.ListN.{length}
-use Rattle.sched.specs.Jobs.{Jobs, jobs_of}
+use Rattle.sched.specs.Jobs.{jobs_of}
 use Rattle.sched.specs.Checks.Laws.{length_good}
 use Rattle.joblist.proofs.Promises.{equal_lists, list_refused, room_refused, write_accepted}
 use Rattle.joblist.proofs.write.Goals as goal
 
 pub size-size-requires : goal.size-size-requires
 size-size-requires c =
-    let lent : Jobs = let a = c.args in
-    jobs_of a.h a.q a.releases.now a.deadlines.now a.volumes.now in
-    equal_lists (lent) c.check_list.result c.check_list.ensures.same c.in-Passed.is
+    let a = c.args in
+    equal_lists (jobs_of a.h a.q a.releases.now a.deadlines.now a.volumes.now) c.check_list.result c.check_list.ensures.same c.in-Passed.is
 
 pub put-requires : goal.put-requires
 put-requires c =
-    let out : List ℕ = c.args.out.now in
-    let lent : Jobs = let a = c.args in
-    jobs_of a.h a.q a.releases.now a.deadlines.now a.volumes.now in
-    let fits = length_good (length (out)) c.size-size.result (sym c.check_length.ensures.same ∙ c.in-Passed-check_length.is) in
+    let a = c.args in
+    let lent = jobs_of a.h a.q a.releases.now a.deadlines.now a.volumes.now in
+    let fits = length_good (length a.out.now) c.size-size.result (sym c.check_length.ensures.same ∙ c.in-Passed-check_length.is) in
     record {
-      lists = equal_lists (lent) c.check_list.result c.check_list.ensures.same c.in-Passed.is;
-      c = omega (arith, c.size-size.ensures, fits);
+      lists = equal_lists lent c.check_list.result c.check_list.ensures.same c.in-Passed.is;
+      room = omega (arith, c.size-size.ensures, fits);
     }
 
 pub returns-in-Passed-check_length : goal.returns-in-Passed-check_length
 returns-in-Passed-check_length c =
-    let lent : Jobs = let a = c.args in
-    jobs_of a.h a.q a.releases.now a.deadlines.now a.volumes.now in
-    let out : List ℕ = c.args.out.now in
-    write_accepted (lent) (out) c.size-size.result c.check_list.result c.check_length.result c.check_list.ensures.same
-    c.in-Passed.is c.size-size.ensures c.check_length.ensures.same _ c.in-Passed-check_length.is
-    c.put.ensures
+    let a = c.args in
+    let lent = jobs_of a.h a.q a.releases.now a.deadlines.now a.volumes.now in
+    write_accepted lent a.out.now c.size-size.result c.check_list.result c.check_length.result c.check_list.ensures.same
+    c.in-Passed.is c.size-size.ensures c.check_length.ensures.same _ c.in-Passed-check_length.is c.put.ensures
 
 pub returns-in-Refused-check_length : goal.returns-in-Refused-check_length
 returns-in-Refused-check_length c =
-    let lent : Jobs = let a = c.args in
-    jobs_of a.h a.q a.releases.now a.deadlines.now a.volumes.now in
-    let out : List ℕ = c.args.out.now in
-    room_refused (lent) (out) c.size-size.result c.check_list.result c.check_length.result c.check_list.ensures.same
+    let a = c.args in
+    let lent = jobs_of a.h a.q a.releases.now a.deadlines.now a.volumes.now in
+    room_refused lent a.out.now c.size-size.result c.check_list.result c.check_length.result c.check_list.ensures.same
     c.in-Passed.is c.size-size.ensures c.check_length.ensures.same _ c.in-Refused-check_length.is
 
 pub returns-in-Refused : goal.returns-in-Refused
 returns-in-Refused c =
-    let lent : Jobs = let a = c.args in
-    jobs_of a.h a.q a.releases.now a.deadlines.now a.volumes.now in
-    let out : List ℕ = c.args.out.now in
-    list_refused (lent) (out) _ c.check_list.result c.check_list.ensures.same c.in-Refused.is
+    let a = c.args in
+    let lent = jobs_of a.h a.q a.releases.now a.deadlines.now a.volumes.now in
+    list_refused lent a.out.now _ c.check_list.result c.check_list.ensures.same c.in-Refused.is

@@ -9,5 +9,4 @@ returns-in-Refused c = fill_refused c.walk.ensures _ c.in-Refused.is
 -- passed, each has its fields in front
 pub returns-in-Passed : goal.returns-in-Passed
 returns-in-Passed c =
-    fill_passed c.walk.ensures c.enum_told-1.given.1
-    c.copy.ensures c.copy-in-Passed.ensures c.copy-in-Passed-2.ensures
+    fill_passed c.walk.ensures c.in-Passed.is c.copy.ensures c.copy-in-Passed.ensures c.copy-in-Passed-2.ensures

@@ -13,15 +13,13 @@ read-requires c = part_length c.loop-job.at c.args.bytes.now c.loop-job.invarian
 
 pub overflow_add-at : goal.overflow_add-at
 overflow_add-at c =
-    let f = c.f-1.given in
     let bytes = c.args.bytes.now in
-    omega (arith, walk_inside c.loop-job.invariant c.loop-job-test.true (part_rest c.loop-job.at bytes) c.read.ensures f.0.0 f.1)
+    omega (arith, walk_inside c.loop-job.invariant c.loop-job-test.true (part_rest c.loop-job.at bytes) c.read.ensures c.in-Read.f c.in-Read.is)
 
 pub loop-job-preserved : goal.loop-job-preserved
 loop-job-preserved c =
-    let f = c.f-1.given in
     walk_next c.loop-job.invariant c.loop-job-test.true (part_rest c.loop-job.at c.args.bytes.now) c.read.ensures
-    f.0.0 f.1
+    c.in-Read.f c.in-Read.is
 
 pub shape_of-releases-in-Refused : goal.shape_of-releases-in-Refused
 shape_of-releases-in-Refused c = c.loop-job.invariant.releases.same
@@ -34,9 +32,8 @@ shape_of-volumes-in-Refused c = c.loop-job.invariant.volumes.same
 
 pub returns-in-Refused : goal.returns-in-Refused
 returns-in-Refused c =
-    let r = c.r-1.given in
     walk_stop c.loop-job.invariant c.loop-job-test.true (part_rest c.loop-job.at c.args.bytes.now) c.read.ensures
-    r.0.0 r.1
+    c.in-Refused.r c.in-Refused.is
 
 pub shape_of-releases-then-at-total : goal.shape_of-releases-then-at-total
 shape_of-releases-then-at-total c = c.loop-job.invariant.releases.same
