@@ -2,18 +2,6 @@
 use Rattle.joblist.proofs.Promises.{long, loadable, read_accepted, read_refused, front_refused}
 use Rattle.joblist.proofs.read.Goals as goal
 
-pub header-list-requires : goal.header-list-requires
-header-list-requires c =
-    let a = c.args in
-    long a.bytes.now a.releases.now a.deadlines.now a.volumes.now c.check.result c.check.ensures
-    c.in-Passed.is
-
-pub fill-requires : goal.fill-requires
-fill-requires c =
-    let a = c.args in
-    loadable a.bytes.now a.releases.now a.deadlines.now a.volumes.now c.check.result c.check.ensures
-    c.in-Passed.is c.header-list.result c.header-list.ensures
-
 pub returns-in-Passed-fill : goal.returns-in-Passed-fill
 returns-in-Passed-fill c =
     let a = c.args in

@@ -7,21 +7,6 @@ use Rattle.sched.specs.Checks.Laws.{length_good}
 use Rattle.joblist.proofs.Promises.{equal_lists, list_refused, room_refused, write_accepted}
 use Rattle.joblist.proofs.write.Goals as goal
 
-pub size-size-requires : goal.size-size-requires
-size-size-requires c =
-    let a = c.args in
-    equal_lists (jobs_of a.h a.q a.releases.now a.deadlines.now a.volumes.now) c.check_list.result c.check_list.ensures.same c.in-Passed.is
-
-pub put-requires : goal.put-requires
-put-requires c =
-    let a = c.args in
-    let lent = jobs_of a.h a.q a.releases.now a.deadlines.now a.volumes.now in
-    let fits = length_good (length a.out.now) c.size-size.result (sym c.check_length.ensures.same ∙ c.in-Passed-check_length.is) in
-    record {
-      lists = equal_lists lent c.check_list.result c.check_list.ensures.same c.in-Passed.is;
-      room = omega (arith, c.size-size.ensures, fits);
-    }
-
 pub returns-in-Passed-check_length : goal.returns-in-Passed-check_length
 returns-in-Passed-check_length c =
     let a = c.args in

@@ -5,9 +5,6 @@ use mathlib.Core.Path.{refl}
 use Rattle.joblist.proofs.Spelling.{stored_room, stored_next, stored_end}
 use Rattle.joblist.proofs.writer.put_entries.Goals as goal
 
-pub loop-job-init : goal.loop-job-init
-loop-job-init c = (search rules, record { same = refl; room = c.requires.room; stored = refl })
-
 pub put_entry-at-requires : goal.put_entry-at-requires
 put_entry-at-requires c =
     let a = c.args in
@@ -23,9 +20,6 @@ loop-job-preserved c =
     c.loop-job.at _
     c.loop-job.out _ c.loop-job-test.true c.put_entry-at.ensures c.loop-job.invariant.1 in
     (search rules, next)
-
-pub shape_of-out : goal.shape_of-out
-shape_of-out c = c.loop-job.invariant.1.same
 
 pub returns : goal.returns
 returns c =

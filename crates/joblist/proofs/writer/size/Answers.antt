@@ -7,9 +7,6 @@ use Rattle.list_parts.specs.Laws.Maps.{entry_small}
 use Rattle.joblist.proofs.Spelling.{length_turn, length_end}
 use Rattle.joblist.proofs.writer.size.Goals as goal
 
-pub loop-job-init : goal.loop-job-init
-loop-job-init c = (search rules, search rules, refl)
-
 pub overflow_add-n : goal.overflow_add-n
 overflow_add-n c =
     let a = c.args in
