@@ -1,9 +1,8 @@
 -- The loop over the entries of a list: an entry that passes, one that does not, and the end, each with the lists that are filled.
 -- `rest` is what is left of the input at offset `at`.
 use Prim.Native.Nat.{ℕ, ◌+◌, ◌-◌, ◌≤◌, ◌<◌}
-use mathlib.Core.Path.{◌≡◌, refl, ap, sym, ◌∙◌}
+use mathlib.Core.Path.{◌≡◌, ap}
 use mathlib.Core.List.{List}
-use native.Mathlib.Nat.{sub-zero}
 use native.Mathlib.Omega.{arith}
 use lib.ListN.{length, drop, set, length-drop}
 use Rattle.sched.specs.Checks.{job_check}
@@ -12,7 +11,6 @@ use Rattle.sched.specs.declared.Refusal.{Refusal}
 use Rattle.sched.specs.declared.Refusal.TheVariants.{LeftOver}
 use Rattle.sched.specs.declared.Checked.{Checked}
 use Rattle.sched.specs.declared.Checked.TheVariants.{Passed, Refused as Faulty}
-use Rattle.list_parts.specs.Header.{header_length}
 use Rattle.list_parts.specs.Entries.{EntryCheck, entry_size, release_of, deadline_of, volume_of, entry_check, entries_check}
 use Rattle.list_parts.specs.Parts.{entry_of}
 use Rattle.list_parts.specs.declared.entry.Fields.{Fields}
@@ -39,18 +37,6 @@ refused : (h count : ℕ) (bytes rs ds ps : List ℕ) (r : Refusal) → Faulty r
     Walked h count bytes (Faulty r) rs ds ps
 refused h count bytes rs ds ps r e =
     record { same = e; releases = refused_not_passed r; deadlines = refused_not_passed r; volumes = refused_not_passed r }
-
-pub walk_start : {h count : ℕ} {bytes rs ds ps : List ℕ} → Loadable count bytes rs ds ps → WalkedTo h count bytes rs ds ps header_length 0 rs ds ps
-walk_start {h} {count} room =
-    let z = sub-zero count in
-    record {
-      inside = room.long;
-      reached = omega arith;
-      checks = rw z;
-      releases = record { same = refl; stored = rw z };
-      deadlines = record { same = refl; stored = rw z };
-      volumes = record { same = refl; stored = rw z };
-    }
 
 module _ {h count : ℕ} {bytes rs₀ ds₀ ps₀ : List ℕ} {at job : ℕ} {rs ds ps : List ℕ} (w : WalkedTo h count bytes rs₀ ds₀ ps₀ at job rs ds ps) where
   abbrev entry : EntryCheck

@@ -1,5 +1,5 @@
 -- `read` meets its contract: the checks before the entries decide, then what fills the three lists.
-use Rattle.joblist.proofs.Promises.{long, loadable, read_accepted, read_refused, front_refused}
+use Rattle.joblist.proofs.Promises.{read_accepted, read_refused, front_refused}
 use Rattle.joblist.proofs.read.Goals as goal
 
 pub returns-in-Passed-fill : goal.returns-in-Passed-fill

@@ -1,10 +1,6 @@
 -- `write` meets its contract: the list checks and the length decide, and where they pass the bytes are put.
-use mathlib.Core.Path.{sym, ◌∙◌}
-use native.Mathlib.Omega.{arith}
-use lib.ListN.{length}
 use Rattle.sched.specs.Jobs.{jobs_of}
-use Rattle.sched.specs.Checks.Laws.{length_good}
-use Rattle.joblist.proofs.Promises.{equal_lists, list_refused, room_refused, write_accepted}
+use Rattle.joblist.proofs.Promises.{list_refused, room_refused, write_accepted}
 use Rattle.joblist.proofs.write.Goals as goal
 
 pub returns-in-Passed-check_length : goal.returns-in-Passed-check_length

@@ -1,8 +1,7 @@
 -- `reader::walk` meets its contract. The invariant: what is left of the checks and of the stores gives what all of them give.
-use Prim.Native.Nat.{◌-◌}
 use native.Mathlib.Omega.{arith}
-use Rattle.list_parts.specs.Laws.Parts.{part_rest, part_length}
-use Rattle.joblist.proofs.Walk.{walk_start, walk_inside, walk_next, walk_stop, walk_left_over, walk_end}
+use Rattle.list_parts.specs.Laws.Parts.{part_rest}
+use Rattle.joblist.proofs.Walk.{walk_next, walk_stop, walk_left_over, walk_end}
 use Rattle.joblist.proofs.reader.walk.Goals as goal
 
 pub loop-job-preserved : goal.loop-job-preserved

@@ -1,7 +1,5 @@
 -- `writer::put_entries` meets its contract. The invariant: what is left to store gives what all of it gives.
 use Rattle.std.proofs.Common.{rules}
-use Prim.Native.Nat.{◌-◌}
-use mathlib.Core.Path.{refl}
 use Rattle.joblist.proofs.Spelling.{stored_room, stored_next, stored_end}
 use Rattle.joblist.proofs.writer.put_entries.Goals as goal
 

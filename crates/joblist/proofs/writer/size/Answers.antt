@@ -1,6 +1,5 @@
 -- `writer::size` meets its contract. The invariant: the sum so far, with the length of what is left, is the length of all.
 use Rattle.std.proofs.Common.{rules}
-use mathlib.Core.Path.{refl}
 use native.Mathlib.Omega.{arith}
 use lib.ListN.{get_or}
 use Rattle.list_parts.specs.Laws.Maps.{entry_small}

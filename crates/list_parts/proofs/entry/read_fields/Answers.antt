@@ -1,8 +1,6 @@
 -- `entry::read_fields` meets its contract: each field is read where the one before it ends, and tested in the order of `redundancy_check`.
-use mathlib.Core.Path.{refl, ap}
-use native.Mathlib.Omega.{arith}
-use Rattle.list_parts.specs.Layout.{width}
-use Rattle.list_parts.proofs.Fields.{fields_there, field_read, release_refused, deadline_refused, volume_refused, fields_read}
+use mathlib.Core.Path.{refl}
+use Rattle.list_parts.proofs.Fields.{field_read, release_refused, deadline_refused, volume_refused, fields_read}
 use Rattle.list_parts.proofs.entry.read_fields.Goals as goal
 
 pub returns-then-is_redundant : goal.returns-then-is_redundant
