@@ -1,5 +1,5 @@
 -- From what the parts of `read` and `write` promise to what the two promise.
-use Prim.Native.Nat.{ℕ, ◌+◌, ◌≤◌}
+use Prim.Native.Nat.{ℕ, ◌+◌}
 use mathlib.Core.Path.{◌≡◌, refl, ap, ◌∙◌, sym}
 use mathlib.Core.List.{List}
 use native.Mathlib.Nat.{zero-add}
@@ -8,27 +8,21 @@ use lib.ListN.{length}
 use lib.Seq.{sets, sets-eq}
 use Rattle.sched.specs.Jobs.{Jobs}
 use Rattle.sched.specs.Checks.{and_then, length_check, job_check, check_of}
-use Rattle.sched.specs.Checks.Laws.{passed_passes, then_passed, then_fails, then_passes, length_good}
+use Rattle.sched.specs.Checks.Laws.{then_passed, then_fails, then_passes, length_good}
 use Rattle.sched.specs.declared.Refusal.{Refusal}
 use Rattle.sched.specs.declared.Checked.{Checked}
 use Rattle.sched.specs.declared.Checked.TheVariants.{Passed, Refused as Faulty}
 use Rattle.list_parts.specs.Header.{header_check, header_length, header_horizon, header_count}
-use Rattle.list_parts.specs.Laws.Header.{header_passed}
 use Rattle.joblist.specs.Reading.{behind_header, read_check, Reading, reading, accepted, read_if, read_number, read_values, ReadPromise, lent_check}
 use Rattle.joblist.specs.Bytes.{spelling, entries_bytes}
 use Rattle.joblist.specs.Writing.{spell_check, Writing, written_if, writing, written_number, written_values, WritePromise}
-use Rattle.joblist.specs.Parts.{HeaderOf, front_check, Loadable, Filled, EqualLists}
-use Rattle.joblist.specs.Laws.Input.{lent_passed, reading_accepted, reading_refused}
+use Rattle.joblist.specs.Parts.{HeaderOf, front_check, Filled}
+use Rattle.joblist.specs.Laws.Input.{reading_accepted, reading_refused}
 use Rattle.joblist.specs.declared.ListHeader.{ListHeader}
 use Rattle.joblist.specs.declared.ListRead.{ListRead}
 use Rattle.joblist.specs.declared.ListRead.TheVariants.{Read, Refused}
 use Rattle.joblist.specs.declared.ListWritten.TheVariants.{Written, Refused as NotWritten}
 use Rattle.joblist.proofs.Spelling.{spelling_length}
-
--- the checks before the entries
-pub front_lent : (bytes : List ℕ) (r d p : ℕ) (list : ListHeader) (answer : Checked) → HeaderOf bytes list → header_check bytes ≡ Passed →
-    answer ≡ lent_check list.count r d p → answer ≡ front_check bytes r d p
-front_lent bytes r d p list answer o a e = rw o.count at e ∙ sym (then_passes (header_check bytes) (lent_check (header_count bytes) r d p) a)
 
 then_then : (a b c : Checked) → and_then a (and_then b c) ≡ and_then (and_then a b) c
 then_then Passed b c = refl
@@ -65,22 +59,7 @@ module _ (bytes rs ds ps : List ℕ) (front : Checked) (a : front ≡ front_chec
     front_passed : (header_check bytes ≡ Passed) × (lent ≡ Passed)
     front_passed = then_passed (header_check bytes) lent (sym a ∙ passed)
 
-    pub long : header_length ≤ length bytes
-    long = (header_passed bytes front_passed.0).long
-
     module _ (list : ListHeader) (o : HeaderOf bytes list) where
-      pub loadable : Loadable list.count bytes rs ds ps
-      loadable =
-          let g = header_passed bytes front_passed.0 in
-          let m = lent_passed (header_count bytes) (length rs) (length ds) (length ps) front_passed.1 in
-          record {
-            long = g.long;
-            few = rw o.count g.few;
-            releases = rw o.count m.releases;
-            deadlines = rw o.count m.deadlines;
-            volumes = rw o.count m.volumes;
-          }
-
       -- the checks of the entries decide
       entries_decide : (c : Checked) → c ≡ behind_header job_check list.h list.count bytes →
           read_check bytes (length rs) (length ds) (length ps) ≡ c
@@ -100,11 +79,6 @@ module _ (bytes rs ds ps : List ℕ) (front : Checked) (a : front ≡ front_chec
             promised (read_if (Faulty r) bytes rs ds ps) rs' ds' ps' (Refused r)
             (reading_refused bytes rs ds ps r (entries_decide c f.same ∙ e)) refl
             (rw e at f.releases) (rw e at f.deadlines) (rw e at f.volumes)
-
-pub equal_lists : (J : Jobs) (c : Checked) → c ≡ check_of J → c ≡ Passed → EqualLists J.releases J.deadlines J.volumes
-equal_lists J c a e =
-    let g = passed_passes J (sym a ∙ e) in
-    record { deadlines = g.same_deadlines; volumes = g.same_volumes; few = g.few }
 
 module _ (J : Jobs) (out : List ℕ) where
   -- the promise, from what the writing is

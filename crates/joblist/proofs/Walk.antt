@@ -1,9 +1,8 @@
 -- The loop over the entries of a list: an entry that passes, one that does not, and the end, each with the lists that are filled.
 -- `rest` is what is left of the input at offset `at`.
 use Prim.Native.Nat.{ℕ, ◌+◌, ◌-◌, ◌≤◌, ◌<◌}
-use mathlib.Core.Path.{◌≡◌, refl, ap, sym, ◌∙◌}
+use mathlib.Core.Path.{◌≡◌, ap}
 use mathlib.Core.List.{List}
-use native.Mathlib.Nat.{sub-zero}
 use native.Mathlib.Omega.{arith}
 use lib.ListN.{length, drop, set, length-drop}
 use Rattle.sched.specs.Checks.{job_check}
@@ -12,15 +11,13 @@ use Rattle.sched.specs.declared.Refusal.{Refusal}
 use Rattle.sched.specs.declared.Refusal.TheVariants.{LeftOver}
 use Rattle.sched.specs.declared.Checked.{Checked}
 use Rattle.sched.specs.declared.Checked.TheVariants.{Passed, Refused as Faulty}
-use Rattle.list_parts.specs.Header.{header_length}
-use Rattle.list_parts.specs.Entries.{EntryCheck, entry_map, entry_size, release_of, deadline_of, volume_of, entry_check, entries_check}
+use Rattle.list_parts.specs.Entries.{EntryCheck, entry_size, release_of, deadline_of, volume_of, entry_check, entries_check}
 use Rattle.list_parts.specs.Parts.{entry_of}
 use Rattle.list_parts.specs.declared.entry.Fields.{Fields}
 use Rattle.list_parts.specs.declared.entry.Entry.{Entry}
 use Rattle.list_parts.specs.declared.entry.Entry.TheVariants.{Read, Refused}
 use Rattle.list_parts.specs.Laws.Walk.{entries_next, entries_stop, entries_left_over, entries_end, ColumnTo, column_next, column_end}
 use Rattle.list_parts.specs.Laws.Entry.{entry_passed}
-use Rattle.list_parts.specs.Laws.Maps.{length_is}
 use Rattle.list_parts.specs.Laws.Parts.{told_read, told_refused}
 use Rattle.joblist.specs.Reading.{behind_header}
 use Rattle.joblist.specs.Parts.{Loadable, Walked}
@@ -41,18 +38,6 @@ refused : (h count : ℕ) (bytes rs ds ps : List ℕ) (r : Refusal) → Faulty r
 refused h count bytes rs ds ps r e =
     record { same = e; releases = refused_not_passed r; deadlines = refused_not_passed r; volumes = refused_not_passed r }
 
-pub walk_start : {h count : ℕ} {bytes rs ds ps : List ℕ} → Loadable count bytes rs ds ps → WalkedTo h count bytes rs ds ps header_length 0 rs ds ps
-walk_start {h} {count} room =
-    let z = sub-zero count in
-    record {
-      inside = room.long;
-      reached = omega arith;
-      checks = rw z;
-      releases = record { same = refl; stored = rw z };
-      deadlines = record { same = refl; stored = rw z };
-      volumes = record { same = refl; stored = rw z };
-    }
-
 module _ {h count : ℕ} {bytes rs₀ ds₀ ps₀ : List ℕ} {at job : ℕ} {rs ds ps : List ℕ} (w : WalkedTo h count bytes rs₀ ds₀ ps₀ at job rs ds ps) where
   abbrev entry : EntryCheck
   entry = entry_check job_check h (length bytes)
@@ -66,25 +51,18 @@ module _ {h count : ℕ} {bytes rs₀ ds₀ ps₀ : List ℕ} {at job : ℕ} {rs
     abbrev here : Checked
     here = entry_check job_check h (length bytes) job at rest
 
-    -- the fields end where the entry does
-    ends : (f : Fields) → e ≡ Read f → f.end ≡ entry_size rest
-    ends f b =
-        let t = told_read h rest here e f a b in
-        let known = (entry_passed job_check h (length bytes) job at rest t.0).map.known in
-        ap (λ (x : Fields). x.end) t.1 ∙ sym (length_is (entry_map rest) known)
-
-    pub walk_inside : (f : Fields) → e ≡ Read f → at + f.end ≤ length bytes
+    pub walk_inside : (f : Fields) → e ≡ Read f → at + f.size ≤ length bytes
     walk_inside f b =
         let t = told_read h rest here e f a b in
         let whole = (entry_passed job_check h (length bytes) job at rest t.0).whole in
-        omega (arith, whole, ends f b, w.inside, ap length s, length-drop at bytes)
+        omega (arith, whole, ap (λ (x : Fields). x.size) t.1, w.inside, ap length s, length-drop at bytes)
 
     pub walk_next : (f : Fields) → e ≡ Read f →
-        WalkedTo h count bytes rs₀ ds₀ ps₀ (at + f.end) (job + 1) (set rs job f.release) (set ds job f.deadline) (set ps job f.volume)
+        WalkedTo h count bytes rs₀ ds₀ ps₀ (at + f.size) (job + 1) (set rs job f.release) (set ds job f.deadline) (set ps job f.volume)
     walk_next f b =
         let t = told_read h rest here e f a b in
-        let n = f.end in
-        let z = ends f b in
+        let n = f.size in
+        let z : n ≡ entry_size rest = ap (λ (x : Fields). x.size) t.1 in
         let r = ap (λ (x : Fields). x.release) t.1 in
         let d = ap (λ (x : Fields). x.deadline) t.1 in
         let p = ap (λ (x : Fields). x.volume) t.1 in

@@ -69,7 +69,7 @@ fn walk(
                 releases[job] = f.release;
                 deadlines[job] = f.deadline;
                 volumes[job] = f.volume;
-                at += f.end;
+                at += f.size;
                 job += 1;
             }
             Entry::Refused(r) => {

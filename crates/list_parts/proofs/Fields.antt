@@ -1,13 +1,10 @@
 -- The fields of an entry where their bits stand, and the ways out of the checks of an entry.
-use Prim.Native.Nat.{ℕ, ◌+◌, ◌*◌}
+use Prim.Native.Nat.{ℕ, ◌+◌, ◌<◌}
 use mathlib.Core.Path.{◌≡◌, refl, sym, ap, ◌∙◌}
 use mathlib.Core.Bool.{Bool, true, false, ◌&&◌}
 use mathlib.Core.List.{List}
-use native.Mathlib.Nat.{add-zero}
-use lib.ListN.{length, get_or, drop}
-use lib.Seq.{get_or-drop}
+use lib.ListN.{length, drop}
 use lib.Dec.{ltb, eqb}
-use Rattle.sched.specs.TwoBytes.{word}
 use Rattle.sched.specs.Checks.{and_then, job_check}
 use Rattle.sched.specs.Checks.Laws.{then_fails, then_passes}
 use Rattle.sched.specs.declared.Refusal.{Refusal}
@@ -16,25 +13,13 @@ use Rattle.sched.specs.declared.Checked.{Checked}
 use Rattle.sched.specs.declared.Checked.TheVariants.{Passed, Refused as Faulty}
 use Rattle.list_parts.specs.Layout.{width, absent_release, absent_deadline, absent_volume, has_release, has_deadline, has_volume, release_at}
 use Rattle.list_parts.specs.Layout.{deadline_at, volume_at}
-use Rattle.list_parts.specs.Entries.{entry_map, entry_size, value_if, redundant, known_maps, map_check, whole_check, redundancy_check, fault_check}
+use Rattle.list_parts.specs.Entries.{entry_map, entry_size, value_if, redundant, known_maps, map_check, whole_check, redundancy_check}
 use Rattle.list_parts.specs.Entries.{entry_check}
-use Rattle.list_parts.specs.Parts.{FoundAt, fields_of, entry_of, job_part}
-use Rattle.list_parts.specs.Laws.Parts.{told_read, told_refused}
+use Rattle.list_parts.specs.Parts.{FoundAt, entry_of, job_part}
+use Rattle.list_parts.specs.Laws.Maps.{length_is}
 use Rattle.list_parts.specs.declared.entry.Found.{Found}
-use Rattle.list_parts.specs.declared.entry.Fields.{Fields}
 use Rattle.list_parts.specs.declared.entry.Entry.{Entry}
 use Rattle.list_parts.specs.declared.entry.Entry.TheVariants.{Read, Refused}
-
-pub word_at : (bs : List ℕ) (at : ℕ) → get_or bs at 0 + 256 * get_or bs (at + 1) 0 ≡ word (drop at bs)
-word_at bs at = simp (get_or-drop, add-zero)
-
--- a field that stands, and one that does not
-pub stands_at : (b : Bool) (absent w at : ℕ) (bs : List ℕ) → b ≡ true → w ≡ word (drop at bs) →
-    FoundAt b absent at bs (record { value = w; next = at + 2 })
-stands_at b absent w at bs p e = record { value = rw p e; next = rw p }
-
-pub absent_at : (b : Bool) (absent at : ℕ) (bs : List ℕ) → b ≡ false → FoundAt b absent at bs (record { value = absent; next = at })
-absent_at b absent at bs p = record { value = rw p; next = rw (p, add-zero) }
 
 -- a field as it was read: its value, the offset behind it, and whether it stands with its absent value
 pub record FieldRead (stands : Bool) (place absent : ℕ) (bs : List ℕ) (f : Found) (test : Bool) : Type 0 where
@@ -78,34 +63,13 @@ module _ (h at : ℕ) (bs : List ℕ) where
   unfolding redundancy_check
   volume_refused a b c = rw (b.next, a.tested, b.tested, c.tested)
 
-  pub fields_read : {r d p : Found} → First bs r false → Second h bs d false → Third bs p false →
-      Read (record { release = r.value; deadline = d.value; volume = p.value; end = p.next }) ≡ fields
+  pub fields_read : {r d p : Found} → entry_map bs < known_maps → First bs r false → Second h bs d false → Third bs p false →
+      Read (record { release = r.value; deadline = d.value; volume = p.value; size = p.next }) ≡ fields
   unfolding redundancy_check
-  fields_read a b c =
-      ap Read (λ i. record { release = a.value i; deadline = b.value i; volume = c.value i; end = c.next i })
+  fields_read known a b c =
+      let size = c.next ∙ sym (length_is (entry_map bs) known) in
+      ap Read (λ i. record { release = a.value i; deadline = b.value i; volume = c.value i; size = size i })
       ∙ rw (a.tested, b.tested, c.tested)
-
--- the job, once its fields are read
-module _ (h j at : ℕ) (bs : List ℕ) (e : Entry) (a : e ≡ entry_of (redundancy_check h at bs) h bs) where
-  pub fields_refused : (r : Refusal) → e ≡ Refused r → Refused r ≡ entry_of (job_part h j at bs) h bs
-  fields_refused r b =
-      ap (λ (c : Checked). entry_of c h bs)
-      (sym (then_fails (redundancy_check h at bs) (fault_check job_check h j bs) r (told_refused h bs (redundancy_check h at bs) e r a b)))
-
-  module _ (f : Fields) (b : e ≡ Read f) (check : Checked) (k : check ≡ job_check h j f.release f.deadline f.volume) where
-    is : (redundancy_check h at bs ≡ Passed) × (f ≡ fields_of h bs)
-    is = told_read h bs (redundancy_check h at bs) e f a b
-
-    job_decides : (c : Checked) → check ≡ c → c ≡ job_part h j at bs
-    job_decides c g =
-        sym g ∙ k ∙ ap (λ (x : Fields). job_check h j x.release x.deadline x.volume) is.1
-        ∙ sym (then_passes (redundancy_check h at bs) (fault_check job_check h j bs) is.0)
-
-    pub job_refused : (r : Refusal) → check ≡ Faulty r → Refused r ≡ entry_of (job_part h j at bs) h bs
-    job_refused r g = ap (λ (c : Checked). entry_of c h bs) (job_decides (Faulty r) g)
-
-    pub job_read : check ≡ Passed → Read f ≡ entry_of (job_part h j at bs) h bs
-    job_read g = ap Read is.1 ∙ ap (λ (c : Checked). entry_of c h bs) (job_decides Passed g)
 
 -- the ways out of the checks of an entry
 module _ (h n j at : ℕ) (bs : List ℕ) (map : Checked) (m : map ≡ map_check known_maps n at bs) where

@@ -1,34 +1,19 @@
 -- The bytes of an entry, stored one part after the other.
-use Prim.Native.Nat.{ℕ, ◌+◌, ◌≤◌, ◌%◌, ◌/◌}
-use mathlib.Core.Path.{◌≡◌, refl, ◌∙◌, sym}
-use mathlib.Core.Bool.{Bool}
+use Prim.Native.Nat.{ℕ, ◌+◌}
+use mathlib.Core.Path.{◌≡◌, ◌∙◌}
 use mathlib.Core.List.{List, ◌++◌}
-use native.Mathlib.Nat.{add-zero}
 use native.Mathlib.Numerals.{add-one}
 use native.Mathlib.Omega.{arith}
-use borrow.Author.Tests.{eq-eqb, ne_eqb}
 use lib.ListN.{length, set, length-append}
-use Rattle.sched.specs.Bits.{bit}
-use Rattle.sched.specs.Bits.Laws.{bit_small}
 use Rattle.sched.specs.Buffers.{PutAt}
 use Rattle.sched.specs.Buffers.Laws.{sets_append}
 use Rattle.list_parts.specs.Layout.{absent_release, absent_deadline, absent_volume, stands, bytes_if, job_map, entry_bytes}
-
-pub bit_fits : (b : Bool) (x : ℕ) → x ≡ bit b → x ≤ 1
-bit_fits b x e = rw e (bit_small b)
 
 pub entry_length : (h r d p : ℕ) →
     length (entry_bytes h r d p) ≡
     1 + length (bytes_if (stands absent_release r) r) + length (bytes_if (stands (absent_deadline h) d) d) + length (bytes_if (stands absent_volume p) p)
 unfolding entry_bytes
 entry_length h r d p = simp length-append (omega arith)
-
-pub put_no_field : (out : List ℕ) (absent x at : ℕ) → x ≡ absent → PutAt out at (bytes_if (stands absent x) x) at out
-put_no_field out absent x at e = rw (eq-eqb x absent e) (record { next = sym (add-zero at); stored = refl })
-
-pub put_field : (out : List ℕ) (absent x at : ℕ) → (x ≡ absent → ⊥) →
-    PutAt out at (bytes_if (stands absent x) x) (at + 2) (set (set out at (x % 256)) (at + 1) (x / 256))
-put_field out absent x at e = rw (ne_eqb x absent e) (record { next = refl; stored = rw add-one })
 
 -- one part behind another
 put_both : (out out₁ out₂ xs ys : List ℕ) (at next end : ℕ) → PutAt out at xs next out₁ → PutAt out₁ next ys end out₂ →

@@ -4,7 +4,7 @@ use Rattle.sched.specs.Checks.{and_then, job_check}
 use Rattle.sched.specs.declared.Checked.{Checked}
 use Rattle.sched.specs.declared.Checked.TheVariants.{Passed, Refused as Faulty}
 use Rattle.list_parts.specs.Header.{header_length, header_horizon, header_wake}
-use Rattle.list_parts.specs.Layout.{width, fields_end}
+use Rattle.list_parts.specs.Layout.{width}
 use Rattle.list_parts.specs.Entries.{entry_map, entry_size, known_maps, value_if, release_of, deadline_of, volume_of, redundancy_check, fault_check}
 use Rattle.list_parts.specs.declared.header.Header.{Header}
 use Rattle.list_parts.specs.declared.entry.Found.{Found}
@@ -28,20 +28,15 @@ pub record FoundAt (stands : Bool) (absent at : ℕ) (bs : List ℕ) (f : Found)
   pub value : f.value ≡ value_if stands absent (drop at bs)
   pub next : f.next ≡ at + width stands
 
--- a map byte and all bytes of its three fields, at an offset of the input
-pub record WholeFields (at : ℕ) (bs : List ℕ) : Type 0 where
-  pub whole : fields_end (entry_map bs) ≤ length bs
-  pub fits : at + length bs < 2 ^ 64
-
 -- a known map byte and all bytes of its fields, at an offset of the input
 pub record WholeEntry (at : ℕ) (bs : List ℕ) : Type 0 where
   pub known : entry_map bs < known_maps
   pub whole : entry_size bs ≤ length bs
   pub fits : at + length bs < 2 ^ 64
 
--- what is read of an entry where its checks pass: its fields, and where they end
+-- what is read of an entry: its fields where its checks pass
 abbrev pub fields_of : ℕ → List ℕ → Fields
-fields_of h bs = record { release = release_of bs; deadline = deadline_of h bs; volume = volume_of bs; end = fields_end (entry_map bs) }
+fields_of h bs = record { release = release_of bs; deadline = deadline_of h bs; volume = volume_of bs; size = entry_size bs }
 
 abbrev pub entry_of : Checked → ℕ → List ℕ → Entry
 entry_of Passed h bs = Read (fields_of h bs)

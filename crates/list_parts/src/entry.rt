@@ -4,7 +4,7 @@ ghost use Rattle.sched.specs.TwoBytes.{word};
 ghost use Rattle.sched.specs.Checks.{job_check};
 ghost use Rattle.list_parts.specs.Layout.{has_release, has_deadline, has_volume, width, entry_length};
 ghost use Rattle.list_parts.specs.Entries.{entry_size, map_check, redundancy_check, entry_check};
-ghost use Rattle.list_parts.specs.Parts.{FoundAt, WholeFields, WholeEntry, entry_of, job_part};
+ghost use Rattle.list_parts.specs.Parts.{FoundAt, WholeEntry, entry_of, job_part};
 
 use sched::{Checked, Refusal};
 
@@ -15,13 +15,13 @@ struct Found {
     next: usize,
 }
 
-// The fields of a job, and where they end, counted from the map byte.
+// The fields of a job, and the length of its entry.
 #[derive(Drop)]
 pub struct Fields {
     pub release: u16,
     pub deadline: u16,
     pub volume: u16,
-    pub end: usize,
+    pub size: usize,
 }
 
 #[derive(Drop)]
@@ -123,10 +123,9 @@ pub fn check_map(maps: u8, total: usize, at: usize, bytes: &[u8]) -> Checked
     Checked::Passed
 }
 
-// The three fields of an entry that holds them, for any map, refused where one stands with its absent value; its map byte stands at offset `at` of the
-// input.
+// The fields of an entry that is whole, refused where one stands with its absent value; its map byte stands at offset `at` of the input.
 pub fn read_fields(h: u16, at: usize, bytes: &[u8]) -> Entry
-    requires { WholeFields at bytes.now }
+    requires { WholeEntry at bytes.now }
     ensures { result ≡ entry_of (redundancy_check h at bytes.now) h bytes.now }
 {
     let map = bytes[0];
@@ -149,7 +148,7 @@ pub fn read_fields(h: u16, at: usize, bytes: &[u8]) -> Entry
         release: first.value,
         deadline: second.value,
         volume: third.value,
-        end: third.next,
+        size: third.next,
     })
 }
 

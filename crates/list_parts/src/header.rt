@@ -57,14 +57,21 @@ fn count_byte(n: usize) -> u8
     n as u8
 }
 
-// The header of a list of `n` jobs.
-pub fn put(h: u16, q: u16, n: usize, out: &mut [u8])
-    requires { HeaderFits n out.old }
-    ensures { out.new ≡ sets out.old 0 (two_bytes h ++ (two_bytes q ++ (count_byte false n ∷ []))) }
+fn put_header(h: u16, q: u16, count: u8, out: &mut [u8])
+    requires { header_length ≤ length out.old }
+    ensures { out.new ≡ sets out.old 0 (two_bytes h ++ (two_bytes q ++ (count ∷ []))) }
 {
     out[0] = (h % 256) as u8;
     out[1] = (h / 256) as u8;
     out[2] = (q % 256) as u8;
     out[3] = (q / 256) as u8;
-    out[4] = count_byte(n);
+    out[4] = count;
+}
+
+// The header of a list of `n` jobs.
+pub fn put(h: u16, q: u16, n: usize, out: &mut [u8])
+    requires { HeaderFits n out.old }
+    ensures { out.new ≡ sets out.old 0 (two_bytes h ++ (two_bytes q ++ (count_byte false n ∷ []))) }
+{
+    put_header(h, q, count_byte(n), out);
 }

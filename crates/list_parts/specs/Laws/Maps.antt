@@ -1,7 +1,7 @@
 -- The eight maps, one after the other, and the length of an entry by its map.
-use Rattle.std.specs.Prelude.{ℕ, zero, suc, ◌≤◌, ◌<◌, ◌≡◌, refl, Bool, true, false, List, ◌∷◌, ◌++◌, length}
+use Rattle.std.specs.Prelude.{ℕ, zero, suc, ◌+◌, ◌≤◌, ◌<◌, ◌≡◌, refl, Bool, true, false, List, ◌∷◌, ◌++◌, length}
 use Rattle.std.proofs.Common.{arith}
-use Rattle.list_parts.specs.Layout.{absent_release, absent_deadline, absent_volume, has_release, has_deadline, has_volume, map_byte, width, fields_end}
+use Rattle.list_parts.specs.Layout.{absent_release, absent_deadline, absent_volume, has_release, has_deadline, has_volume, map_byte, width, volume_at}
 use Rattle.list_parts.specs.Layout.{entry_length, stands, bytes_if, job_map, entry_bytes}
 use Rattle.list_parts.specs.Entries.{entry_map, entry_size, known_maps}
 
@@ -26,9 +26,9 @@ known_map P a b c d e f g h =
 pub bits_again : (m : ℕ) → m < known_maps → map_byte (has_release m) (has_deadline m) (has_volume m) ≡ m
 bits_again = known_map (λ (m : ℕ). map_byte (has_release m) (has_deadline m) (has_volume m) ≡ m) refl refl refl refl refl refl refl refl
 
--- an entry of one of the eight ends where its volume does
-pub length_is : (m : ℕ) → m < known_maps → entry_length m ≡ fields_end m
-length_is = known_map (λ (m : ℕ). entry_length m ≡ fields_end m) refl refl refl refl refl refl refl refl
+-- an entry ends where its volume does
+pub length_is : (m : ℕ) → m < known_maps → entry_length m ≡ volume_at m + width (has_volume m)
+length_is = known_map (λ (m : ℕ). entry_length m ≡ volume_at m + width (has_volume m)) refl refl refl refl refl refl refl refl
 
 pub length_small : (m : ℕ) → entry_length m ≤ 7
 length_small =
