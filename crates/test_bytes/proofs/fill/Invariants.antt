@@ -1,0 +1,9 @@
+-- `test_bytes::fill` meets its contract: after i turns the first i slots hold the byte, and the table keeps its length.
+use Rattle.std.proofs.Common.{◌-◌, length}
+use Rattle.test_bytes.proofs.fill.Given as goal
+
+abbrev pub invariant-loop-i : goal.invariant-loop-i
+invariant-loop-i l = Filled l.byte l.initial.t l.t l.i
+
+abbrev pub decreases-loop-i : goal.decreases-loop-i
+decreases-loop-i l = length l.initial.t - l.i
