@@ -11,7 +11,7 @@ mod reader; // reader.rt: the checks of a list's bytes, and its jobs
 mod writer; // writer.rt: the length of a list's bytes, and the bytes
 
 // What stands before the jobs: horizon, wake cost and number of jobs.
-#[derive(Drop)]
+#[derive(Clone, Copy)]
 pub struct ListHeader {
     pub h: u16,
     pub q: u16,

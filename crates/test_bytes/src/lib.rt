@@ -5,7 +5,6 @@
 ghost use Rattle.std.specs.Prelude.{◌≡◌, ◌+◌, ◌*◌, ◌/◌, ◌%◌, ◌^◌, ◌<◌, length, take, replicate, slice_index, slice_set};
 ghost use Rattle.test_bytes.specs.Bytes.{digest_from, turns_from};
 
-
 // Prints the bytes as they are.
 pub fn text(s: &[u8]) {
     io::write_all(1, s);

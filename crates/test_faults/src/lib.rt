@@ -6,7 +6,7 @@ ghost use Rattle.std.specs.Prelude.{false, ◌≡◌};
 ghost use Rattle.test_faults.specs.Faults.{wanted, found, left_out};
 
 // Release, deadline and volume.
-#[derive(Drop)]
+#[derive(Clone, Copy)]
 pub struct Job {
     pub r: u16,
     pub d: u16,

@@ -3,11 +3,7 @@ use Rattle.std.proofs.Common.{◌≡◌, ℕ, suc, ◌+◌, ◌-◌, ◌%◌, �
 use native.Mathlib.Nat.{sub-zero}
 use Rattle.test_bytes.specs.Bytes.{turns_from}
 use Rattle.test_bytes.proofs.alternate.Goals as goal
-
-record Turned (t₀ t : List ℕ) (i : ℕ) : Type 0 where
-  long : length t ≡ length t₀
-  within : i ≤ length t₀
-  all : take i t ++ turns_from (length t₀ - i) i ≡ turns_from (length t₀) 0
+use Rattle.test_bytes.proofs.alternate.Invariants.{Turned}
 
 none_turned : (t : List ℕ) → Turned t t 0
 none_turned t = record { long = refl; within = omega arith; all = ap (λ (n : ℕ). turns_from n 0) (sub-zero (length t)) }

@@ -1,5 +1,5 @@
 -- `test_bytes::digest_from` meets its contract: a turn takes one byte.
-use Rattle.std.proofs.Common.{◌≡◌, ℕ, ◌+◌, ◌-◌, ◌*◌, ◌%◌, ◌<◌, ◌≤◌, List, length, get_or, drop, sym, refl, ap, ◌∙◌, add-one, arith, drop_of_length-le, drop-cons}
+use Rattle.std.proofs.Common.{◌≡◌, ℕ, ◌+◌, ◌*◌, ◌%◌, ◌<◌, ◌≤◌, List, length, get_or, drop, sym, ap, ◌∙◌, add-one, drop_of_length-le, drop-cons}
 use Rattle.test_bytes.specs.Bytes.{digest_from}
 use Rattle.test_bytes.proofs.digest_from.Goals as goal
 
@@ -13,12 +13,6 @@ digest_turn out sum i l =
 digest_end : (out : List ℕ) (sum i : ℕ) → length out ≤ i → digest_from sum (drop i out) ≡ sum
 unfolding digest_from
 digest_end out sum i l = rw (drop_of_length-le out {i = i} l)
-
-pub loop-i-init : goal.loop-i-init
-loop-i-init c = refl
-
-pub overflow_cast-out : goal.overflow_cast-out
-overflow_cast-out c = omega (arith, c.type_inv.out c.loop-i.i)
 
 pub loop-i-preserved : goal.loop-i-preserved
 loop-i-preserved c =

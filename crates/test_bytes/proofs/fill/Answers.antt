@@ -1,12 +1,8 @@
 -- `test_bytes::fill` meets its contract: after i turns the first i slots hold the byte, and the table keeps its length.
-use Rattle.std.proofs.Common.{◌≡◌, ℕ, ◌+◌, ◌-◌, ◌<◌, ◌≤◌, List, [], ◌∷◌, ◌++◌, length, take, set, replicate, sym, refl, ap, ◌∙◌, add-one, arith, length-set, take_all, take-suc-set}
+use Rattle.std.proofs.Common.{◌≡◌, ℕ, ◌+◌, ◌<◌, ◌≤◌, List, [], ◌∷◌, ◌++◌, length, take, set, replicate, sym, refl, ap, ◌∙◌, add-one, arith, length-set, take_all, take-suc-set}
 use lib.ListN.{replicate-append-replicate}
 use Rattle.test_bytes.proofs.fill.Goals as goal
-
-record Filled (byte : ℕ) (t₀ t : List ℕ) (i : ℕ) : Type 0 where
-  long : length t ≡ length t₀
-  within : i ≤ length t₀
-  front : take i t ≡ replicate i byte
+use Rattle.test_bytes.proofs.fill.Invariants.{Filled}
 
 one_more : {byte : ℕ} {t₀ t : List ℕ} {i : ℕ} → i < length t → Filled byte t₀ t i → Filled byte t₀ (set t i byte) (i + 1)
 one_more {byte = byte} {t = t} {i = i} below f =
