@@ -21,8 +21,7 @@ slice_bounds-fill_table-end c =
 
 pub slice_bounds-fill_table-count-in-Passed : goal.slice_bounds-fill_table-count-in-Passed
 slice_bounds-fill_table-count-in-Passed c =
-    let within : c.behind_map-behind.result ≤ length c.args.bytes.now = behind_within c.args.bytes.now c.requires _ c.horizon-h.ensures _ c.behind_map-behind.ensures in
-    within
+    behind_within c.args.bytes.now c.requires _ c.horizon-h.ensures _ c.behind_map-behind.ensures
 
 pub slice_bounds-fill_table-start-in-Passed : goal.slice_bounds-fill_table-start-in-Passed
 slice_bounds-fill_table-start-in-Passed c =
@@ -32,23 +31,23 @@ slice_bounds-fill_table-start-in-Passed c =
 pub slice_bounds-fill_table-end-in-Passed-2 : goal.slice_bounds-fill_table-end-in-Passed-2
 slice_bounds-fill_table-end-in-Passed-2 c =
     let room : length_check (length c.args.table.now) c.horizon-h.result ≡ Passed = sym c.check_length.ensures.same ∙ c.in-Passed.is in
-    length_good _ _ (room)
+    length_good _ _ room
 
 pub slice_bounds-fill_table-end-in-Passed-3 : goal.slice_bounds-fill_table-end-in-Passed-3
 slice_bounds-fill_table-end-in-Passed-3 c =
     let room : length_check (length c.args.table.now) c.horizon-h.result ≡ Passed = sym c.check_length.ensures.same ∙ c.in-Passed.is in
-    sym (length-take-le _ _ (length_good _ _ (room)))
+    sym (length-take-le _ _ (length_good _ _ room))
 
 pub fill_table-requires : goal.fill_table-requires
 fill_table-requires c =
     let room : length_check (length c.args.table.now) c.horizon-h.result ≡ Passed = sym c.check_length.ensures.same ∙ c.in-Passed.is in
-    fits c.args.bytes.now c.args.table.now c.requires _ c.horizon-h.ensures _ c.behind_map-behind.ensures (room)
+    fits c.args.bytes.now c.args.table.now c.requires _ c.horizon-h.ensures _ c.behind_map-behind.ensures room
     (λ i. omega (arith, c.type_inv.bytes i))
 
 pub returns-in-Passed : goal.returns-in-Passed
 returns-in-Passed c =
     let room : length_check (length c.args.table.now) c.horizon-h.result ≡ Passed = sym c.check_length.ensures.same ∙ c.in-Passed.is in
-    table_filled c.args.bytes.now c.args.table.now c.requires _ c.horizon-h.ensures _ c.behind_map-behind.ensures (room) _
+    table_filled c.args.bytes.now c.args.table.now c.requires _ c.horizon-h.ensures _ c.behind_map-behind.ensures room _
     c.fill_table.ensures
 
 pub returns-in-Refused : goal.returns-in-Refused

@@ -1,7 +1,6 @@
 -- `write_text` meets its contract: the length is tested before anything is put, and the lines of the runs stand behind the first one.
-use Prim.Native.Nat.{◌+◌, ◌≤◌}
-use mathlib.Core.Path.{◌≡◌, sym, ◌∙◌}
-use mathlib.Core.List.{◌++◌}
+use Prim.Native.Nat.{◌+◌}
+use mathlib.Core.Path.{sym, ◌∙◌}
 use native.Mathlib.Omega.{arith}
 use lib.ListN.{length}
 use Rattle.sched.specs.Checks.Laws.{length_good}
@@ -26,29 +25,26 @@ overflow_add-n c =
 
 pub put-behind-requires : goal.put-behind-requires
 put-behind-requires c =
-    let fits : c.size.result + c.size-2.result ≤ length c.args.out.now = length_good (length c.args.out.now) (c.size.result + c.size-2.result)
-    (sym c.check_length.ensures.same ∙ c.in-Passed.is) in
+    let fits = length_good (length c.args.out.now) (c.size.result + c.size-2.result) (sym c.check_length.ensures.same ∙ c.in-Passed.is) in
     omega (arith, fits, c.size.ensures)
 
 pub put-requires : goal.put-requires
 put-requires c =
-    let fits : c.size.result + c.size-2.result ≤ length c.args.out.now = length_good (length c.args.out.now) (c.size.result + c.size-2.result)
-    (sym c.check_length.ensures.same ∙ c.in-Passed.is) in
+    let fits = length_good (length c.args.out.now) (c.size.result + c.size-2.result) (sym c.check_length.ensures.same ∙ c.in-Passed.is) in
     omega (arith, fits, c.size.ensures, c.size-2.ensures, c.put-behind.ensures.next, c.put-behind.auto.out)
 
 pub returns-in-Passed : goal.returns-in-Passed
 returns-in-Passed c =
-    let size_is : c.size.result + c.size-2.result ≡ length (line c.args.word.now c.args.values.now ++ run_lines c.args.slots.now) = let a = c.args in
-    text_size a.word.now a.values.now a.slots.now _ _ c.size.ensures c.size-2.ensures in
-    let fits : c.size.result + c.size-2.result ≤ length c.args.out.now = length_good (length c.args.out.now) (c.size.result + c.size-2.result)
-    (sym c.check_length.ensures.same ∙ c.in-Passed.is) in
     let a = c.args in
-    has_room _ _ _ (size_is) _ (sym c.check_length.ensures.same ∙ c.in-Passed.is)
+    let size_is = text_size a.word.now a.values.now a.slots.now _ _ c.size.ensures c.size-2.ensures in
+    let passed = sym c.check_length.ensures.same ∙ c.in-Passed.is in
+    let fits = length_good (length a.out.now) (c.size.result + c.size-2.result) passed in
+    has_room _ _ _ size_is _ passed
     (text_put (line a.word.now a.values.now) (run_lines a.slots.now) a.out.now _ _ _ _ (omega (arith, fits, size_is))
     c.put-behind.ensures c.put.ensures)
 
 pub returns-in-Refused : goal.returns-in-Refused
 returns-in-Refused c =
-    let size_is : c.size.result + c.size-2.result ≡ length (line c.args.word.now c.args.values.now ++ run_lines c.args.slots.now) = let a = c.args in
-    text_size a.word.now a.values.now a.slots.now _ _ c.size.ensures c.size-2.ensures in
-    no_room _ _ _ (size_is) _ (sym c.check_length.ensures.same ∙ c.in-Refused.is)
+    let a = c.args in
+    let size_is = text_size a.word.now a.values.now a.slots.now _ _ c.size.ensures c.size-2.ensures in
+    no_room _ _ _ size_is _ (sym c.check_length.ensures.same ∙ c.in-Refused.is)

@@ -25,7 +25,7 @@ overflow_sub-len c = c.end-stop.ensures.starts
 pub returns-then-seen-k : goal.returns-then-seen-k
 returns-then-seen-k c =
     let slots : length (take c.args.h (bits_of c.args.bits.now)) ≡ c.args.h = length-take-le _ _ (omega (arith, length_bits c.args.bits.now, c.requires.2)) in
-    searched_found _ _ _ _ _ _ _ (slots) c.loop-first.invariant _ c.loop-first-test.true c.end-stop.ensures c.if-seen-k.true
+    searched_found _ _ _ _ _ _ _ slots c.loop-first.invariant _ c.loop-first-test.true c.end-stop.ensures c.if-seen-k.true
 
 pub overflow_add-seen : goal.overflow_add-seen
 overflow_add-seen c = omega (arith, c.loop-first.invariant.few, c.if-seen-k.false, c.ranges.k)
@@ -35,7 +35,7 @@ overflow_add-at c =
     let slots : length (take c.args.h (bits_of c.args.bits.now)) ≡ c.args.h = length-take-le _ _ (omega (arith, length_bits c.args.bits.now, c.requires.2)) in
     omega (
       arith,
-      searched_small _ _ _ _ _ _ _ (slots) c.loop-first.invariant _ c.loop-first-test.true c.end-stop.ensures,
+      searched_small _ _ _ _ _ _ _ slots c.loop-first.invariant _ c.loop-first-test.true c.end-stop.ensures,
       c.requires.0,
       c.requires.1,
     )
@@ -48,16 +48,16 @@ loop-first-smaller c =
     let slots : length (take c.args.h (bits_of c.args.bits.now)) ≡ c.args.h = length-take-le _ _ (omega (arith, length_bits c.args.bits.now, c.requires.2)) in
     omega (
       arith,
-      searched_forward _ _ _ _ _ _ _ (slots) c.loop-first.invariant _ c.loop-first-test.true c.end-stop.ensures _ c.end-first-in-loop-first.ensures,
+      searched_forward _ _ _ _ _ _ _ slots c.loop-first.invariant _ c.loop-first-test.true c.end-stop.ensures _ c.end-first-in-loop-first.ensures,
       c.end-first-in-loop-first.ensures.within,
     )
 
 pub loop-first-preserved : goal.loop-first-preserved
 loop-first-preserved c =
     let slots : length (take c.args.h (bits_of c.args.bits.now)) ≡ c.args.h = length-take-le _ _ (omega (arith, length_bits c.args.bits.now, c.requires.2)) in
-    searched_next _ _ _ _ _ _ _ (slots) c.loop-first.invariant _ c.loop-first-test.true c.end-stop.ensures _ c.if-seen-k.false c.end-first-in-loop-first.ensures
+    searched_next _ _ _ _ _ _ _ slots c.loop-first.invariant _ c.loop-first-test.true c.end-stop.ensures _ c.if-seen-k.false c.end-first-in-loop-first.ensures
 
 pub returns : goal.returns
 returns c =
     let slots : length (take c.args.h (bits_of c.args.bits.now)) ≡ c.args.h = length-take-le _ _ (omega (arith, length_bits c.args.bits.now, c.requires.2)) in
-    searched_none _ _ _ _ _ _ _ (slots) c.loop-first.invariant c.loop-first-test.false
+    searched_none _ _ _ _ _ _ _ slots c.loop-first.invariant c.loop-first-test.false
