@@ -15,7 +15,7 @@ help:
 	@echo 'make dist     packs the part for buyers, for each processor, to target/dist'
 	@echo 'make robust   tries a million lists from outside; SEED, COUNT and FIRST can be set'
 	@echo 'make bench    measures'
-	@echo 'make clean    removes target/, and so all that was built and proved'
+	@echo 'make clean    removes target/ and crates/*/out, and so all that was built and proved here'
 	@echo 'All but make test say what is missing and install nothing.'
 
 run:
@@ -45,4 +45,4 @@ robust:
 	@tests/host/entry/robust
 
 clean:
-	@rm -rf target
+	@rm -rf target crates/*/out
