@@ -19,7 +19,7 @@ use Rattle.sched.specs.declared.Refusal.TheVariants.{TooShort}
 use Rattle.sched.specs.declared.PlanFigures.{PlanFigures}
 use Rattle.sched.specs.declared.Outcome.{Outcome}
 use Rattle.sched.specs.declared.Outcome.TheVariants.{Planned, Overloaded, Refused}
-use Rattle.steps.specs.Rivals.{AgainstRivals, Reports, as_outcome, CountsWoken}
+use Rattle.laws_rivals.specs.Rivals.{AgainstRivals, Reports, as_outcome, CountsWoken}
 use Rattle.sleep_plan.specs.Block.{answer_bytes, number_in}
 use Rattle.sleep_plan.specs.Block.Laws.{too_large, Small, one_number, two_numbers, four_numbers}
 use Rattle.sleep_plan.specs.Puts.{Puts, FiguresFit}

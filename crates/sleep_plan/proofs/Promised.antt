@@ -13,7 +13,7 @@ use Rattle.sched.specs.Answers.{outcome_values}
 use Rattle.sched.specs.declared.Refusal.{Refusal}
 use Rattle.sched.specs.declared.Checked.TheVariants.{Passed, Refused as Faulty}
 use Rattle.sched.specs.declared.Outcome.{Outcome}
-use Rattle.steps.specs.Rivals.{AgainstRivals, CheapestSleep, CountsWoken}
+use Rattle.laws_rivals.specs.Rivals.{AgainstRivals, CheapestSleep, CountsWoken}
 use Rattle.planner.specs.Promises.{PlanPromise}
 use Rattle.joblist.specs.Reading.{list_of}
 use Rattle.sched.specs.Checks.Laws.{refused_not_passed}

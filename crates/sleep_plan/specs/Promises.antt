@@ -4,7 +4,7 @@ use Rattle.std.specs.Prelude.{ℕ, ◌≤◌, ◌<◌, ◌≡◌, false, List, l
 use Rattle.sched.specs.Jobs.{Jobs}
 use Rattle.sched.specs.Checks.{Passes}
 use Rattle.sched.specs.declared.Checked.TheVariants.{Passed}
-use Rattle.steps.specs.Rivals.{Answered, AgainstRivals, CheapestSleep, CountsWoken}
+use Rattle.laws_rivals.specs.Rivals.{Answered, AgainstRivals, CheapestSleep, CountsWoken}
 use Rattle.joblist.specs.Bytes.{spelling}
 use Rattle.joblist.specs.Reading.{list_of}
 use Rattle.sleep_plan.specs.Block.{block_length, number_in}

@@ -1,5 +1,5 @@
 -- 01, "From list to table", with cards 5, 6 and 10 of 02, in formulas, over the words of `sched`. Each file renders one concept; files named Laws, and
--- those below `Sleep`, hold what is proved of it. `Rivals` has the words of the third demand.
+-- those below `Sleep`, hold what is proved of it.
 pub mod Overload
 pub mod Skeleton
 pub mod Workable
@@ -8,6 +8,5 @@ pub mod Table
 pub mod Sleep
 pub mod Steps
 pub mod Outcomes
-pub mod Rivals
 pub mod Theorems
 pub mod Cases

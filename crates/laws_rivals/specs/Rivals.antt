@@ -1,7 +1,7 @@
--- Demand 3, in the words of the plan: two planners with one list that passes the list checks, one wake cost and one start. A rival's schedule is any
+-- Demand 3, in the words of `sched`: two planners with one list that passes the list checks, one wake cost and one start. A rival's schedule is any
 -- feasible table of H bytes. An answer is given by what can be read off it: whether it says overloaded, which interval it shows, and which
 -- energy it reports. So the records here serve the planner on lent lists, the call from C, and any other planner.
-use Rattle.std.specs.Prelude.{ℕ, ◌+◌, ◌-◌, ◌≤◌, ◌≡◌, List, length}
+use Rattle.std.specs.Prelude.{ℕ, ◌+◌, ◌-◌, ◌≤◌, ◌≡◌, List, length, take}
 use Rattle.sched.specs.Jobs.{Jobs, total_volume}
 use Rattle.sched.specs.Slots.{awake_of, working_of}
 use Rattle.sched.specs.Energy.{energy}
@@ -9,7 +9,9 @@ use Rattle.sched.specs.Feasible.{Feasible}
 use Rattle.steps.specs.Skeleton.{least_skeleton}
 use Rattle.steps.specs.Workable.{workable}
 use Rattle.steps.specs.Extension.{woken}
+use Rattle.steps.specs.Outcomes.{Plan}
 use Rattle.steps.specs.Overload.{Overfull}
+use Rattle.sched.specs.declared.PlanFigures.{PlanFigures}
 use Rattle.sched.specs.declared.Outcome.{Outcome}
 use Rattle.sched.specs.declared.Outcome.TheVariants.{Planned, Overloaded, Refused}
 
@@ -72,6 +74,13 @@ Reports (Refused r) reported = ⊥
 
 abbrev pub as_outcome : Outcome → Answered
 as_outcome o = record { overloaded = SaysOverloaded o; shows = Shows o; reports = Reports o }
+
+-- what the steps of a planner make of a list without an overloaded interval: a plan with a feasible table and its energy
+pub record Delivers (J : Jobs) (plan : Plan) : Type 0 where
+  pub figures : PlanFigures
+  pub planned : plan.answer ≡ Planned figures
+  pub feasible : Feasible J (take J.horizon plan.table)
+  pub reported : figures.energy ≡ energy J (awake_of (take J.horizon plan.table))
 
 -- what `added` counts: the slots that step 3 wakes, and what the skeleton's workable volume is short of
 abbrev pub CountsWoken : Jobs → ℕ → Type 0
