@@ -5,7 +5,7 @@ ghost use Rattle.test_exhaustive.specs.Digits.{digit_of};
 // A list that passes the list checks, with at most four jobs, eight slots and volumes of at most 15: horizon h, wake cost q, n jobs.
 // Releases, deadlines and volumes are numbers with one hexadecimal digit a job, job 0 lowest; past the last job the digits are 0.
 // What the functions of this crate are said to yield, they yield for such lists and for sets of slots below h.
-#[derive(Drop)]
+#[derive(Clone, Copy)]
 pub struct Small {
     pub h: u32,
     pub q: u16,
