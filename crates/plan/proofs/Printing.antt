@@ -1,6 +1,6 @@
 -- What stands in the program's buffer is what the definition prints.
 use Prim.Native.Nat.{ℕ, ◌≤◌}
-use mathlib.Core.Path.{◌≡◌, sym, ap, ap₂, subst, ◌∙◌}
+use mathlib.Core.Path.{◌≡◌, sym, ap, ap₂, ◌∙◌}
 use mathlib.Core.List.{List, []}
 use native.Mathlib.Omega.{arith}
 use lib.ListN.{length, get_or, take, drop, length-append}
@@ -13,9 +13,6 @@ use Rattle.sched.specs.declared.Refusal.{Refusal}
 use Rattle.sched.specs.declared.Outcome.{Outcome}
 use Rattle.sched.specs.declared.Outcome.TheVariants.{Refused}
 use Rattle.joblist.specs.Reading.{read_check, list_of}
-use Rattle.joblist.specs.declared.ListHeader.{ListHeader}
-use Rattle.joblist.specs.declared.ListRead.{ListRead}
-use Rattle.joblist.specs.declared.ListRead.TheVariants.{Read, Refused as NotRead}
 use Rattle.report.specs.Report.{text_of, written_number, written_values, TextPromise}
 use Rattle.report.specs.Theorems.{text_written}
 use Rattle.report.specs.declared.TextWritten.{TextWritten}
@@ -42,14 +39,6 @@ module _ (outcome : Outcome) (h : ℕ) (table out : List ℕ) (answer : TextWrit
   pub never_short : {A : Type 0} (r : Refusal) → answer ≡ NotWritten r → A
   never_short r e =
       absurd (refusal_number r (sym (ap written_number e) ∙ ap written_number (text_written outcome h table out answer after l room w).0))
-
--- what was read is not refused, and a refusal is one refusal
-module _ (read : ListRead) (r : Refusal) (e : read ≡ NotRead r) where
-  pub read_apart : {A : Type 0} (header : ListHeader) → read ≡ Read header → A
-  read_apart header f = let z : ◌≡◌ {A = ℕ} 0 1 = cc in absurd (omega arith)
-
-  pub one_refusal : (x : Refusal) (n : ℕ) (buffer : List ℕ) → read ≡ NotRead x → StartsWith (text_of (Refused x) []) n buffer → StartsWith (text_of (Refused r) []) n buffer
-  one_refusal x n buffer f b = let same : x ≡ r = cc in subst (λ (y : Refusal). StartsWith (text_of (Refused y) []) n buffer) same b
 
 -- a list that is refused
 pub prints_refused : (input : List ℕ) (r : Refusal) (n : ℕ) (buffer : List ℕ) → read_check input 64 64 64 ≡ Faulty r →
