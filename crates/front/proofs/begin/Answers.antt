@@ -4,12 +4,11 @@ use Rattle.front.proofs.Answers.{list_refused, table_refused, checked, shown_end
 use Rattle.front.proofs.begin.Goals as goal
 
 pub order_and_find-requires : goal.order_and_find-requires
-order_and_find-requires c =
-    (
-      checked c.args.h c.args.releases.now c.args.deadlines.now c.args.volumes.now c.args.have c.args.ranks.now c.args.arrivals.now
-          (sym c.check_list.ensures.same ∙ c.in-Passed.is),
-      c.requires,
-    )
+order_and_find-requires c = (
+  checked c.args.h c.args.releases.now c.args.deadlines.now c.args.volumes.now c.args.have c.args.ranks.now c.args.arrivals.now
+      (sym c.check_list.ensures.same ∙ c.in-Passed.is),
+  c.requires,
+)
 
 pub returns-in-At : goal.returns-in-At
 returns-in-At c =

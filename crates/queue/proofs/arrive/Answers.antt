@@ -1,6 +1,6 @@
 -- `arrive` meets its contract: the next rank of `arrivals` joins while it is released.
 use Rattle.std.proofs.Common.{rules}
-use Prim.Native.Nat.{◌-◌, ◌<◌}
+use Prim.Native.Nat.{◌<◌}
 use native.Mathlib.Omega.{arith}
 use lib.ListN.{length, get_or}
 use Rattle.queue.specs.Runs.{Reached}

@@ -1,6 +1,6 @@
 -- `expire` meets its contract: deadlines rise by rank, so it stops at the first that has not passed.
 use Rattle.std.proofs.Common.{rules}
-use Prim.Native.Nat.{◌-◌, ◌<◌}
+use Prim.Native.Nat.{◌<◌}
 use native.Mathlib.Omega.{arith}
 use lib.ListN.{length}
 use Rattle.queue.proofs.Events.{gone_known, gone_turn}
@@ -23,11 +23,10 @@ loop-k-smaller c =
     let l = within in omega arith
 
 pub loop-k-preserved : goal.loop-k-preserved
-loop-k-preserved c =
-    (
-      gone_turn _ _ _ _ c.requires _ _ c.deadline_at.ensures (omega (arith, c.loop-k-test.true)) c.loop-k.invariant.0,
-      omega (arith, c.loop-k.invariant.1),
-    )
+loop-k-preserved c = (
+  gone_turn _ _ _ _ c.requires _ _ c.deadline_at.ensures (omega (arith, c.loop-k-test.true)) c.loop-k.invariant.0,
+  omega (arith, c.loop-k.invariant.1),
+)
 
 pub returns : goal.returns
 returns c =

@@ -1,5 +1,4 @@
 -- `run` meets its contract: the slots from the first to before t are done, and the rest of the run is that from what is left.
-use Prim.Native.Nat.{◌-◌}
 use native.Mathlib.Omega.{arith}
 use Rattle.queue.specs.Runs.Waiting.{ready_first}
 use Rattle.queue.proofs.SlotBySlot.{run_starts, slot_ready, run_turn, run_ready, run_ends}
@@ -18,8 +17,7 @@ loop-t-smaller c = omega (arith, c.loop-t-test.true, c.loop-t.invariant.0.same_l
 
 pub loop-t-preserved : goal.loop-t-preserved
 loop-t-preserved c =
-    let served = c.slot-last.ensures in
-    (
+    let served = c.slot-last.ensures in (
       run_turn _ _ _ _ _ _ _ _ _ _ _ _ _ _ _ _ c.loop-t-test.true c.loop-t.invariant.0 served,
       run_ready _ _ _ _ _ _ _ _ _ _ _ _ _ served,
     )

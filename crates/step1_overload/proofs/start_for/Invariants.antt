@@ -1,5 +1,4 @@
 -- `start_for` meets its contract: a turn visits the last of the jobs that are left, and 64 volumes fit 32 bits.
-use Prim.Native.Nat.{◌-◌}
 use Rattle.step1_overload.proofs.Visiting.{Visiting}
 use Rattle.step1_overload.proofs.start_for.Given as goal
 

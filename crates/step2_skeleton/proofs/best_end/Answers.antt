@@ -1,5 +1,4 @@
 -- `step2_skeleton::best_end` meets its contract: after each window the best end of those looked at is known for every list.
-use Prim.Native.Nat.{◌-◌}
 use native.Mathlib.Omega.{arith}
 use Rattle.std.proofs.Common.{rules}
 use Rattle.step2_skeleton.proofs.Sleeping.{ended_turn, ended_end}
@@ -22,12 +21,11 @@ overflow_add-end-in-loop-k c =
     )
 
 pub loop-k-preserved : goal.loop-k-preserved
-loop-k-preserved c =
-    (
-      search rules,
-      ended_turn _ c.args.rests.now _ _ _ _ _ _ _ _ c.loop-k.invariant.0 c.loop-k-test.true
-          c.better-best.ensures.0 c.better-best.ensures.1 c.loop-k.invariant.1,
-    )
+loop-k-preserved c = (
+  search rules,
+  ended_turn _ c.args.rests.now _ _ _ _ _ _ _ _ c.loop-k.invariant.0 c.loop-k-test.true
+      c.better-best.ensures.0 c.better-best.ensures.1 c.loop-k.invariant.1,
+)
 
 pub returns : goal.returns
 returns c = ended_end _ c.args.rests.now _ _ _ _ _ _ c.loop-k-test.false c.loop-k.invariant.1

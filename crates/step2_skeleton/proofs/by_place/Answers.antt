@@ -1,5 +1,4 @@
 -- `step2_skeleton::by_place` meets its contract: each place is filled from the job that stands there.
-use Prim.Native.Nat.{◌-◌}
 use native.Mathlib.Omega.{arith}
 use Rattle.std.proofs.Common.{rules}
 use Rattle.orders.specs.Placing.{filled_start, filled_turn, filled_end}

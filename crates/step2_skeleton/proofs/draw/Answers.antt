@@ -1,5 +1,4 @@
 -- `step2_skeleton::draw` meets its contract: what is drawn so far and the runs still to come are the whole set.
-use Prim.Native.Nat.{◌-◌}
 use native.Mathlib.Omega.{arith}
 use Rattle.step2_skeleton.proofs.Pricing.{ends_many}
 use Rattle.step2_skeleton.proofs.Drawing.{drawing_start, drawing_met, run_fits, drawing_run, drawing_end}

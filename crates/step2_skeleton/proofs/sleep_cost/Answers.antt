@@ -1,5 +1,4 @@
 -- `step2_skeleton::sleep_cost` meets its contract: no window passed so far is waked for, and the first that is not passed is.
-use Prim.Native.Nat.{◌-◌}
 use native.Mathlib.Omega.{arith}
 use Rattle.std.proofs.Common.{rules}
 use Rattle.step2_skeleton.proofs.Sleeping.{asleep_turn, asleep_found, asleep_end}

@@ -1,5 +1,4 @@
 -- `step2_skeleton::wake_for` meets its contract: the numbers before place k are new, the others as they were.
-use Prim.Native.Nat.{◌-◌}
 use Rattle.step2_skeleton.proofs.Sleeping.{waked_turn, waked_end}
 use Rattle.step2_skeleton.proofs.wake_for.Goals as goal
 

@@ -1,6 +1,5 @@
 -- `step3_extend::ends_of` meets its contract: a later slot of a job overwrites an earlier one.
 use Rattle.step3_extend.proofs.Ends.{ends_start, ends_turn, ends_pass, ends_done}
-use Prim.Native.Nat.{◌-◌}
 use native.Mathlib.Omega.{arith}
 use Rattle.step3_extend.proofs.ends_of.Goals as goal
 

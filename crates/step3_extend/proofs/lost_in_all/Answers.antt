@@ -1,7 +1,7 @@
 -- `step3_extend::lost_in_all` meets its contract: 64 numbers of 16 bits add up to fewer than 32.
 use Rattle.step3_extend.proofs.Ends.{sum_start, sum_turn, sum_end}
 use lib.ListN.{length}
-use Prim.Native.Nat.{◌-◌, ◌<◌}
+use Prim.Native.Nat.{◌<◌}
 use native.Mathlib.Omega.{arith}
 use Rattle.std.proofs.Common.{rules}
 use Rattle.step3_extend.proofs.lost_in_all.Goals as goal

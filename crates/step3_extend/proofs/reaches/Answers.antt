@@ -1,6 +1,5 @@
 -- `step3_extend::reaches` meets its contract, a rank a turn.
 use Rattle.step3_extend.proofs.Gathering.{reaching_start, reaching_turn, reaching_end}
-use Prim.Native.Nat.{◌-◌}
 use mathlib.Core.Path.{refl}
 use Rattle.step3_extend.proofs.reaches.Goals as goal
 

@@ -1,7 +1,6 @@
 -- `step3_slot::end_below` meets its contract: it scans downwards as `end_below` does, and a slot that holds the byte stays below.
 use Rattle.laws_extension.specs.Chain.{end_below}
 use Rattle.step3_slot.specs.Books.{Stops}
-use Prim.Native.Nat.{◌-◌}
 use mathlib.Core.Path.{◌≡◌}
 use Rattle.step3_slot.proofs.end_below.Given as goal
 

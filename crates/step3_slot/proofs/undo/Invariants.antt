@@ -1,6 +1,5 @@
 -- `step3_slot::undo` meets its contract: each turn puts one note back.
 use Rattle.step3_slot.proofs.Undoing.{Undoing}
-use Prim.Native.Nat.{◌-◌}
 use Rattle.step3_slot.proofs.undo.Given as goal
 
 abbrev pub invariant-loop-i : goal.invariant-loop-i

@@ -1,7 +1,6 @@
 -- `step3_slot::wake` meets its contract: one pass over the ranks is the chain, and its notes put back what it changed.
 use Rattle.step3_slot.proofs.Asking.{asking_start, asking_early, asking_behind, asking_on, asking_gained, asking_end}
 use Rattle.step3_slot.proofs.Asking.{asking_lost_long, asking_ends_long, asking_in_reach, asking_in_lost, asking_gainable, asking_stops, asking_fits, asking_undoable}
-use Prim.Native.Nat.{◌-◌}
 use native.Mathlib.Omega.{arith}
 use Rattle.std.proofs.Common.{rules}
 use Rattle.step3_slot.proofs.wake.Goals as goal

@@ -1,5 +1,4 @@
 -- `fill` meets its contract: the slots before t are filled, and the rest is filled from what is left and the job that ran last.
-use Prim.Native.Nat.{◌-◌}
 use native.Mathlib.Omega.{arith}
 use Rattle.queue.specs.Runs.Waiting.{ready_first}
 use Rattle.step4_table.proofs.SlotBySlot.{fill_starts, fill_slot, fill_more, fill_ready, fill_ends}

@@ -1,5 +1,4 @@
 -- `sleep` meets its contract: each working slot closes the stretch before it, and the last stretch sleeps.
-use Prim.Native.Nat.{◌-◌}
 use native.Mathlib.Omega.{arith}
 use Rattle.step5_sleep.proofs.Settled.{settled_start, settled_rest, settled_work, settled_end}
 use Rattle.step5_sleep.proofs.sleep.Goals as goal

@@ -1,6 +1,5 @@
 -- `grow::first_near` meets its contract: up to the first awake slot all sleep.
 use Rattle.step3_extend.proofs.Reading.{sleeping_start, sleeping_turn, alone_none, alone_before}
-use Prim.Native.Nat.{◌-◌}
 use Rattle.step3_extend.proofs.grow.first_near.Goals as goal
 
 pub loop-t-init : goal.loop-t-init

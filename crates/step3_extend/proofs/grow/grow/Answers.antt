@@ -3,7 +3,6 @@
 use Rattle.step3_extend.proofs.Growing.{grown_start, grown_again, grown_notes, grown_step, grown_through, grown_end}
 use Rattle.step3_extend.proofs.Growing.{growing_inside, growing_small, growing_tryable, growing_pass, growing_vain, growing_turn}
 use mathlib.Core.Path.{refl}
-use Prim.Native.Nat.{◌-◌}
 use native.Mathlib.Omega.{arith}
 use Rattle.std.proofs.Common.{rules}
 use Rattle.step3_extend.proofs.grow.grow.Goals as goal
@@ -21,12 +20,11 @@ pub first_due_after-first-requires : goal.first_due_after-first-requires
 first_due_after-first-requires c = c.search.invariant.first_in
 
 pub wake-requires : goal.wake-requires
-wake-requires c =
-    (
-      growing_tryable c.search.invariant.now c.first_due_after-first.ensures c.loop-short-test.true _ c.is_next.ensures
-          c.if-is_next.true,
-      grown_notes c.search.invariant,
-    )
+wake-requires c = (
+  growing_tryable c.search.invariant.now c.first_due_after-first.ensures c.loop-short-test.true _ c.is_next.ensures
+      c.if-is_next.true,
+  grown_notes c.search.invariant,
+)
 
 pub overflow_add-cursor : goal.overflow_add-cursor
 overflow_add-cursor c = omega (arith, growing_small c.search.invariant.now c.loop-short-test.true)
