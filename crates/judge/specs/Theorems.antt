@@ -8,7 +8,8 @@ use Rattle.sched.specs.Refusals.Laws.{refusal_number}
 use Rattle.sched.specs.Energy.{table_figures}
 use Rattle.sched.specs.Slots.{times}
 use Rattle.sched.specs.Checks.{Passes, and_then, length_check, check_of}
-use Rattle.sched.specs.Checks.Laws.{then_passed, passed_passes, passes, length_good, length_passes, refused_not_passed}
+use Rattle.sched.proofs.Passes.{passes}
+use Rattle.sched.specs.Checks.Laws.{then_passed, passed_passes, length_good, length_passes, refused_not_passed}
 use Rattle.sched.specs.Feasible.{Feasible}
 use Rattle.sched.specs.Theorems.RefusesJob.{RefusesJob, not_job, other_if, other_then, other_passed, other_length}
 use Rattle.sched.specs.Theorems.TellsJob.{TellsJob, first_tells}

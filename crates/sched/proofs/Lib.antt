@@ -3,3 +3,5 @@ pub mod Bytes
 pub mod Tally
 pub mod Copied
 pub mod Poured
+pub mod OnlyNumber
+pub mod Passes

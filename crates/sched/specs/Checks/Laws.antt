@@ -182,6 +182,3 @@ passes_passed J p =
       le-ltb 64 (count J) p.few,
     )
     (from_passes (count J) 0 J.horizon J.releases J.deadlines J.volumes (λ i l m. p.good i (omega arith)))
-
-pub passes : (J : Jobs) → check_of J ≡ Passed ↔ Passes J
-passes J = (passed_passes J, passes_passed J)

@@ -68,7 +68,7 @@ coarse_number Passed = accepted_same []
 coarse_number (Refused r) = told_number r (eqb (number r) 25) (eqb (number r) 26) refl refl
 
 -- checks in a row, before and now; a refusal that is told by the same number is the same
-if_coarse : (b : Bool) (r : Refusal) (before now : Checked) → r ≡ told15 r → before ≡ coarse now → refuse_if b r before ≡ coarse (refuse_if b r now)
+pub if_coarse : (b : Bool) (r : Refusal) (before now : Checked) → r ≡ told15 r → before ≡ coarse now → refuse_if b r before ≡ coarse (refuse_if b r now)
 if_coarse true r before now same e = ap (λ (x : Refusal). Refused x) same
 if_coarse false r before now same e = e
 
@@ -98,34 +98,3 @@ job_coarse h j r d p = by (leb d r) (ltb h d) (eqb p 0)
     by false true volume = refl
     by false false true = refl
     by false false false = refl
-
-walk_coarse : (k j h : ℕ) (rs ds ps : List ℕ) → check_from job_check_before k j h rs ds ps ≡ coarse (check_from job_check k j h rs ds ps)
-unfolding check_from
-walk_coarse zero j h rs ds ps = refl
-walk_coarse (suc k) j h rs ds ps =
-    let r = get_or rs j 0 in
-    let d = get_or ds j 0 in
-    let p = get_or ps j 0 in
-    then_coarse (job_check_before h j r d p) (check_from job_check_before k (suc j) h rs ds ps) (job_check h j r d p) (check_from job_check k (suc j) h rs ds ps)
-    (job_coarse h j r d p) (walk_coarse k (suc j) h rs ds ps)
-
-list_coarse : (h : ℕ) (rs ds ps : List ℕ) → list_check_by job_check_before h rs ds ps ≡ coarse (list_check h rs ds ps)
-list_coarse h rs ds ps =
-    let n = length rs in
-    let count = count_check n in
-    let horizon = horizon_check h in
-    let before₁ = and_then count (jobs_check job_check_before h rs ds ps) in
-    let now₁ = and_then count (jobs_check job_check h rs ds ps) in
-    let before₂ = refuse_if (not (eqb (length ps) n)) (Unequal 0) before₁ in
-    let now₂ = refuse_if (not (eqb (length ps) n)) (Unequal 0) now₁ in
-    then_coarse horizon (lists_check job_check_before h rs ds ps) horizon (lists_check job_check h rs ds ps) (other_same horizon (other_horizon h))
-    (if_coarse (not (eqb (length ds) n)) (Unequal 0) before₂ now₂ refl
-    (if_coarse (not (eqb (length ps) n)) (Unequal 0) before₁ now₁ refl
-    (then_coarse count (jobs_check job_check_before h rs ds ps) count (jobs_check job_check h rs ds ps) (other_same count (other_count n)) (walk_coarse n 0 h rs ds ps))))
-
--- The theorem, for every list: the answers of the list checks before and now.
-pub list_only_number : (h : ℕ) (rs ds ps : List ℕ) →
-    let before = list_check_by job_check_before h rs ds ps in
-    let now = list_check h rs ds ps in
-    OnlyNumber (checked_number before) (checked_number now) (checked_values before) (checked_values now)
-list_only_number h rs ds ps = rw (list_coarse h rs ds ps) (coarse_number (list_check h rs ds ps))
