@@ -4,9 +4,6 @@ use Rattle.std.proofs.Math.Option.{Option, none, some}
 use Rattle.sched.specs.Jobs.{Jobs}
 use Rattle.steps.specs.Overload.{Overfull, Shown}
 use Rattle.sched.specs.declared.Interval.{Interval}
-pub mod Laws
-pub mod Counting
-pub mod Ends
 pub mod Order
 pub mod Search
 pub mod Late

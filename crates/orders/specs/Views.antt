@@ -3,7 +3,7 @@ use Rattle.std.specs.Prelude.{ℕ, List, map, reverse}
 use Rattle.std.proofs.Common.{sym, subst}
 use Rattle.sched.specs.Jobs.{Jobs, count, release, deadline}
 use Rattle.laws_edf.specs.Orders.{Orders, job_at}
-use Rattle.laws_edf.specs.Orders.Laws.{sorted_one}
+use Rattle.laws_edf.proofs.Orders.Laws.{sorted_one}
 use Rattle.laws_edf.specs.Overload.Order.{InOrder}
 use Rattle.laws_skeleton.specs.Order.{Order}
 use Rattle.orders.specs.Rising.Members.{rising_sorted}

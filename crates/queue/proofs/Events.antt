@@ -13,7 +13,7 @@ use lib.Dec.{leb, ltb}
 use lib.Pow.{pow_mono}
 use Rattle.laws_edf.specs.Search.{state_of}
 use Rattle.laws_edf.specs.Orders.{job_at}
-use Rattle.laws_edf.specs.Orders.Laws.{places_differ}
+use Rattle.laws_edf.proofs.Orders.Laws.{places_differ}
 use Rattle.sched.specs.Bits.{bit}
 use Rattle.queue.specs.Mask.{mask}
 use Rattle.queue.specs.Mask.Laws.{mask_joins, mask_alike, mask_lt}

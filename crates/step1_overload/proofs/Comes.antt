@@ -11,7 +11,7 @@ use lib.Pow.{pow_mono}
 use Rattle.sched.specs.Jobs.{Jobs, count}
 use Rattle.laws_edf.specs.Search.{state_of}
 use Rattle.laws_edf.specs.Orders.{Sorted, rank_release}
-use Rattle.laws_edf.specs.Orders.Laws.{places_differ}
+use Rattle.laws_edf.proofs.Orders.Laws.{places_differ}
 use Rattle.queue.specs.Arrivals.{comes_at, waits, Come}
 use Rattle.queue.specs.Runs.Reads.{reads}
 use Rattle.queue.specs.Mask.{mask}

@@ -10,7 +10,7 @@ use lib.ListN.{get_or}
 use Rattle.sched.specs.Bounded.Laws.{sum_mono, true_not_false}
 use Rattle.sched.specs.Jobs.{Jobs, count, release, volume}
 use Rattle.laws_edf.specs.Search.{state_of}
-use Rattle.laws_edf.specs.Overload.Late.Laws.{ran_idle}
+use Rattle.laws_edf.proofs.Overload.Late.Laws.{ran_idle}
 use Rattle.queue.specs.Arrivals.{waits}
 use Rattle.step1_overload.specs.Pass.{never, PassAt, Turned}
 use Rattle.step1_overload.proofs.Waiting.{no_bit}

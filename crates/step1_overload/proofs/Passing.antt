@@ -11,7 +11,7 @@ use Rattle.laws_edf.specs.Run.{State}
 use Rattle.laws_edf.specs.Search.{state_of}
 use Rattle.laws_edf.specs.Orders.{Orders, job_at}
 use Rattle.laws_edf.specs.Overload.Late.{Ran}
-use Rattle.laws_edf.specs.Overload.Late.Laws.{ran_start, ran_through}
+use Rattle.laws_edf.proofs.Overload.Late.Laws.{ran_start, ran_through}
 use Rattle.queue.specs.Arrivals.{waits}
 use Rattle.queue.specs.Mask.Laws.{mask_none}
 use Rattle.queue.specs.Runs.{Units}

@@ -13,10 +13,10 @@ use Rattle.sched.specs.Bounded.{sum_below}
 use Rattle.sched.specs.Jobs.{Jobs, count, release, deadline}
 use Rattle.laws_edf.specs.Search.{state_of}
 use Rattle.laws_edf.specs.Orders.{Sorted, job_at, rank_release}
-use Rattle.laws_edf.specs.Orders.Laws.{places_differ}
+use Rattle.laws_edf.proofs.Orders.Laws.{places_differ}
 use Rattle.laws_edf.specs.Overload.Late.{Ran, Stint}
 use Rattle.laws_edf.specs.Units.{sum_more}
-use Rattle.laws_edf.specs.Overload.Late.Laws.{ran_stint}
+use Rattle.laws_edf.proofs.Overload.Late.Laws.{ran_stint}
 use Rattle.queue.specs.Arrivals.{waits}
 use Rattle.queue.specs.Mask.{mask}
 use Rattle.queue.specs.Mask.Laws.{Joins, mask_joins, mask_alike}

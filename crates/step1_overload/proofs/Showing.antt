@@ -5,7 +5,7 @@ use mathlib.Core.List.{List}
 use native.Mathlib.Omega.{arith}
 use Rattle.sched.specs.Jobs.{Jobs}
 use Rattle.sched.specs.declared.Interval.{Interval}
-use Rattle.laws_edf.specs.Overload.Search.Laws.{least_end_shown, no_end_shown}
+use Rattle.laws_edf.proofs.Overload.Search.Laws.{least_end_shown, no_end_shown}
 use Rattle.orders.specs.Lists.{ListsOf, orders_of}
 use Rattle.orders.specs.Views.{by_falling_release}
 use Rattle.step1_overload.specs.declared.Shown.TheVariants.{Nothing, At}

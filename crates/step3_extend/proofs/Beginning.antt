@@ -14,7 +14,7 @@ use Rattle.steps.specs.Extension.{woken_in, woken, wake_all, extended}
 use Rattle.laws_edf.specs.Run.{State, Spans, spans, bytes, final}
 use Rattle.laws_edf.specs.Orders.{Orders}
 use Rattle.laws_edf.specs.Search.{state_of}
-use Rattle.laws_edf.specs.Theorems.{workable_at_most_total, some_slot_wakes}
+use Rattle.laws_edf.proofs.Theorems.{workable_at_most_total, some_slot_wakes}
 use Rattle.laws_extension.specs.Chain.{Kept}
 use Rattle.laws_extension.specs.Chain.Keeping.{run_bytes}
 use Rattle.laws_extension.specs.Chain.Missing.{kept_set, kept_volume}

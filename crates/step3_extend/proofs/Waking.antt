@@ -17,7 +17,7 @@ use Rattle.sched.specs.Slots.{awake, awake_of, wake_slot}
 use Rattle.steps.specs.Workable.{workable}
 use Rattle.steps.specs.Extension.{wakeable, next_wake, woken_in, wake_all, extended}
 use Rattle.laws_edf.specs.Run.{spans, bytes}
-use Rattle.laws_edf.specs.Theorems.{unhelpful_stays, some_slot_wakes}
+use Rattle.laws_edf.proofs.Theorems.{unhelpful_stays, some_slot_wakes}
 use Rattle.laws_extension.specs.Waking.{Turn}
 use Rattle.laws_extension.specs.Waking.Laws.{wakes_turn, wake_skeleton}
 use Rattle.laws_extension.specs.Waking.Cursor.{NoneBefore, StaysIdle, cursor_after, next_from}

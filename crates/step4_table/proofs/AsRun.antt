@@ -16,9 +16,9 @@ use Rattle.steps.specs.Workable.{workable}
 use Rattle.steps.specs.Table.{runnable, choice, fill_by, table_of}
 use Rattle.laws_edf.specs.Run.{spans, servable}
 use Rattle.laws_edf.specs.Search.{state_of}
-use Rattle.laws_edf.specs.GoesOn.{goes_on_alike}
-use Rattle.laws_edf.specs.Table.{choice_earliest}
-use Rattle.laws_edf.specs.Theorems.{any_rule_same}
+use Rattle.laws_edf.proofs.GoesOn.{goes_on_alike}
+use Rattle.laws_edf.proofs.Table.{choice_earliest}
+use Rattle.laws_edf.proofs.Theorems.{any_rule_same}
 use Rattle.step4_table.specs.Filling.{onward}
 
 drop_test : (a b c : Bool) → (b ≡ false → c ≡ false) → a && c ≡ a && b && c

@@ -12,7 +12,7 @@ use Rattle.steps.specs.Table.{run_byte, serve, latest_of, fill_by}
 use Rattle.laws_edf.specs.Run.{Spans, servable, slot_byte}
 use Rattle.laws_edf.specs.Pick.{eligible}
 use Rattle.laws_edf.specs.Search.{state_of}
-use Rattle.laws_edf.specs.GoesOn.{goes_none}
+use Rattle.laws_edf.proofs.GoesOn.{goes_none}
 use Rattle.step4_table.specs.Filling.{onward}
 
 module _ (F : Spans) (H : ℕ) (due : (j : ℕ) → j < F.n → F.d j ≤ H) where

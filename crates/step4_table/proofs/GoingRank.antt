@@ -15,7 +15,7 @@ use Rattle.steps.specs.Table.{earliest}
 use Rattle.laws_edf.specs.Run.{Spans, servable, pick, chosen}
 use Rattle.laws_edf.specs.Pick.{eligible, servable_if, chosen_is}
 use Rattle.laws_edf.specs.Rules.{Soonest}
-use Rattle.laws_edf.specs.GoesOn.{on_none, goes_on, stops, goes_none, earliest_nobody}
+use Rattle.laws_edf.proofs.GoesOn.{on_none, goes_on, stops, goes_none, earliest_nobody}
 use Rattle.laws_edf.specs.Search.{state_of}
 use Rattle.laws_edf.specs.Orders.{Sorted, job_at}
 use Rattle.queue.specs.Mask.{mask}

@@ -11,7 +11,7 @@ use Rattle.sched.specs.declared.Refusal.{Refusal}
 use Rattle.sched.specs.declared.Refusal.TheVariants.{NoJobs}
 use Rattle.sched.specs.declared.Checked.TheVariants.{Refused as Faulty}
 use Rattle.steps.specs.Overload.{volume_inside}
-use Rattle.laws_edf.specs.Overload.Ends.{end_unused, start_unused}
+use Rattle.laws_edf.proofs.Overload.Ends.{end_unused, start_unused}
 use Rattle.tightest.specs.declared.Tight.{Tight}
 use Rattle.tightest.specs.declared.Tightness.{Tightness}
 use Rattle.tightest.specs.declared.Tightness.TheVariants.{Found, Refused}

@@ -4,7 +4,6 @@ use Rattle.std.specs.Prelude.{ℕ, ◌+◌, ◌-◌, ◌≤◌, ◌<◌, ◌≡�
 use Rattle.sched.specs.Bounded.{sum_below}
 use Rattle.sched.specs.Jobs.{Jobs, count, release, deadline, volume}
 use Rattle.steps.specs.Overload.{Overfull}
-pub mod Laws
 
 -- the units of job j that were served, if a ≤ r and d ≤ b; L are the units that are left
 unfoldable pub served_if : Jobs → (ℕ → ℕ) → ℕ → ℕ → ℕ → ℕ

@@ -7,7 +7,6 @@ use Rattle.sched.specs.Bounded.{total}
 use Rattle.steps.specs.Overload.{volume_if, volume_inside}
 use Rattle.steps.specs.Overload.{Overfull}
 use Rattle.laws_edf.specs.Overload.Order.{AtMost, Falling}
-pub mod Laws
 
 -- the greatest start for the end b; `sum` is the volume of the jobs with d ≤ b that were visited
 unfoldable pub start_for : Jobs → ℕ → List ℕ → ℕ → Option ℕ

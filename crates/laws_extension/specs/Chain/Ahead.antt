@@ -11,8 +11,8 @@ use Rattle.laws_edf.specs.Run.{State, Eligible, spans, chosen, left}
 use Rattle.laws_edf.specs.Pick.{First, Chosen}
 use Rattle.laws_edf.specs.Units.{OneMore, lowered_less, lowered_elsewhere, less_is_lowered}
 use Rattle.laws_edf.specs.Apart.{eligible_with}
-use Rattle.laws_edf.specs.Left.{left_falls, left_asleep}
-use Rattle.laws_edf.specs.OneSlotMore.{Extra, before_extra}
+use Rattle.laws_edf.proofs.Left.{left_falls, left_asleep}
+use Rattle.laws_edf.proofs.OneSlotMore.{Extra, before_extra}
 use Rattle.laws_edf.specs.Orders.{job_at}
 use Rattle.laws_extension.specs.Chain.{RankedJobs, reaches}
 use Rattle.laws_extension.specs.Chain.Turns.{reaches_if, reaching}

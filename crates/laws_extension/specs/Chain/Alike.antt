@@ -8,8 +8,8 @@ use Rattle.laws_edf.specs.Run.{Spans, State, Eligible, chosen, lowered, after, s
 use Rattle.laws_edf.specs.Pick.{first_unique, View, view}
 use Rattle.laws_edf.specs.Units.{OneMore, lowered_there, lowered_elsewhere, both_lowered, less_everywhere}
 use Rattle.laws_edf.specs.Apart.{eligible_with}
-use Rattle.laws_edf.specs.Left.{left_falls}
-use Rattle.laws_edf.specs.OneSlotMore.{Extra, before_extra}
+use Rattle.laws_edf.proofs.Left.{left_falls}
+use Rattle.laws_edf.proofs.OneSlotMore.{Extra, before_extra}
 use Rattle.laws_extension.specs.Chain.Served.{served, byte_of}
 
 module _ (F : Spans) (b : Bool) (t k : ℕ) (M L : State) (o : OneMore k M L) where

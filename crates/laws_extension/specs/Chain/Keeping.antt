@@ -7,8 +7,8 @@ use Rattle.sched.specs.Jobs.{Jobs, count, deadline, volume}
 use Rattle.sched.specs.Checks.{Passes}
 use Rattle.sched.specs.Slots.{awake}
 use Rattle.laws_edf.specs.Run.{State, spans, bytes, left}
-use Rattle.laws_edf.specs.Left.{final_left}
-use Rattle.laws_edf.specs.Placements.{bytes_long}
+use Rattle.laws_edf.proofs.Left.{final_left}
+use Rattle.laws_edf.proofs.Placements.{bytes_long}
 use Rattle.laws_edf.specs.Orders.{job_at}
 use Rattle.laws_extension.specs.Chain.{RankedJobs, Kept, KeptByRank}
 use Rattle.laws_extension.specs.Chain.Ends.{ends_below}

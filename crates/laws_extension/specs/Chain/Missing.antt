@@ -11,8 +11,8 @@ use Rattle.sched.specs.Slots.Laws.{awake_of_length, awake_of_lem}
 use Rattle.steps.specs.Workable.{workable}
 use Rattle.laws_edf.specs.Run.{Spans, State, spans, slot_byte}
 use Rattle.laws_edf.specs.Pick.{View, view}
-use Rattle.laws_edf.specs.Whole.{served_and_lost}
-use Rattle.laws_edf.specs.Theorems.{workable_is_edf}
+use Rattle.laws_edf.proofs.Whole.{served_and_lost}
+use Rattle.laws_edf.proofs.Theorems.{workable_is_edf}
 use Rattle.laws_extension.specs.Chain.{Kept}
 use Rattle.laws_extension.specs.Chain.Keeping.{left_of, served_by, run_bytes, run_long, run_byte, kept_loses}
 

@@ -9,7 +9,7 @@ use Rattle.std.proofs.Math.Decide.{le_ind}
 use Rattle.laws_edf.specs.Run.{Spans, State, chosen, lowered, after, slot_byte, bytes, left}
 use Rattle.laws_edf.specs.Pick.{Chosen, View, view}
 use Rattle.laws_edf.specs.Units.{lowered_there, lowered_elsewhere}
-use Rattle.laws_edf.specs.Left.{left_falls}
+use Rattle.laws_edf.proofs.Left.{left_falls}
 use Rattle.laws_extension.specs.Chain.Ends.{Ends}
 
 -- the job that slot t serves in the run from p

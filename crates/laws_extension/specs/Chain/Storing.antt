@@ -5,7 +5,7 @@ use Rattle.std.proofs.Math.Decide.{ℕ_discrete, dec_lt}
 use Rattle.sched.specs.Jobs.{Jobs, count, volume}
 use Rattle.sched.specs.Slots.{asleep}
 use Rattle.laws_edf.specs.Run.{spans}
-use Rattle.laws_edf.specs.Placements.{bytes_long}
+use Rattle.laws_edf.proofs.Placements.{bytes_long}
 use Rattle.laws_extension.specs.Chain.{end_below, ByRank, reaches, later_end, gained_reach, handed_on}
 use Rattle.laws_edf.specs.Orders.{job_at}
 use Rattle.laws_extension.specs.Chain.Ends.{end_gained, end_kept, end_blank, end_unblanked}

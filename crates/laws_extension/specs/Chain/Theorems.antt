@@ -12,9 +12,9 @@ use Rattle.sched.specs.Checks.{Passes}
 use Rattle.sched.specs.Slots.{awake, wake_slot, asleep}
 use Rattle.steps.specs.Extension.{helps}
 use Rattle.laws_edf.specs.Run.{spans, vol, edf_volume}
-use Rattle.laws_edf.specs.Left.{same_left, one_less_left}
-use Rattle.laws_edf.specs.Sets.{woken_extra}
-use Rattle.laws_edf.specs.Theorems.{workable_is_edf}
+use Rattle.laws_edf.proofs.Left.{same_left, one_less_left}
+use Rattle.laws_edf.proofs.Sets.{woken_extra}
+use Rattle.laws_edf.proofs.Theorems.{workable_is_edf}
 use Rattle.laws_extension.specs.Chain.{RankedJobs, KeptByRank, RankBooks, reaches, Tried, tried, handed_on}
 use Rattle.laws_edf.specs.Orders.{job_at}
 use Rattle.laws_extension.specs.Chain.Turns.{reaching, tried_closed, tried_lost, tried_on}

@@ -15,7 +15,7 @@ use Rattle.laws_edf.specs.Run.{Spans, State, Eligible, servable}
 use Rattle.laws_edf.specs.Pick.{servable_if}
 use Rattle.laws_edf.specs.Search.{state_of, state_lowered}
 use Rattle.laws_edf.specs.Orders.{Sorted, job_at}
-use Rattle.laws_edf.specs.Orders.Laws.{places_differ}
+use Rattle.laws_edf.proofs.Orders.Laws.{places_differ}
 use Rattle.queue.specs.Mask.{mask}
 use Rattle.queue.specs.Mask.Laws.{Joins, mask_joins, mask_alike}
 use Rattle.queue.specs.Ranks.{serves_rank}

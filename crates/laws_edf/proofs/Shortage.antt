@@ -9,10 +9,10 @@ use Rattle.sched.specs.Bounded.Laws.{sum_ext, by_bool, and_true}
 use Rattle.laws_edf.specs.Run.{Spans, State, chosen, lowered, after, left}
 use Rattle.laws_edf.specs.Pick.{View, view}
 use Rattle.laws_edf.specs.Units.{OneMore, lowered_less, sum_one_more}
-use Rattle.laws_edf.specs.Left.{left_falls, left_unreleased}
+use Rattle.laws_edf.proofs.Left.{left_falls, left_unreleased}
 use Rattle.laws_edf.specs.Lacking.{Carry, Lossy}
-use Rattle.laws_edf.specs.Carry.{carry_eligible, carry_decided}
-use Rattle.laws_edf.specs.Find.{last_failure, part_positive}
+use Rattle.laws_edf.proofs.Carry.{carry_eligible, carry_decided}
+use Rattle.laws_edf.proofs.Find.{last_failure, part_positive}
 
 -- nothing due by e is carried over a, and something is over every slot from there to e, where units are lost
 pub record Critical (F : Spans) (S : ℕ → Bool) (p : State) (a e : ℕ) : Type 0 where

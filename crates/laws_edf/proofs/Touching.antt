@@ -6,9 +6,9 @@ use Rattle.std.proofs.Math.Decide.{dec_le, dec_lt}
 use Rattle.sched.specs.Bounded.{sum_below}
 use Rattle.sched.specs.Bounded.Laws.{by_bool}
 use Rattle.laws_edf.specs.Run.{Spans, State, left, all_units}
-use Rattle.laws_edf.specs.Find.{dec_both, find, change, sum_positive}
+use Rattle.laws_edf.proofs.Find.{dec_both, find, change, sum_positive}
 use Rattle.laws_edf.specs.Lacking.{Carry, Lossy}
-use Rattle.laws_edf.specs.Shortage.{Critical, critical, released_at, units_inside, overfull}
+use Rattle.laws_edf.proofs.Shortage.{Critical, critical, released_at, units_inside, overfull}
 
 -- an awake slot next to x
 abbrev pub NextToAwake : (ℕ → Bool) → ℕ → Type 0

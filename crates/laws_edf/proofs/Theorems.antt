@@ -19,17 +19,17 @@ use Rattle.steps.specs.Table.{Rule, choice, fill_by, table_of}
 use Rattle.laws_edf.specs.Run.{spans, vol, left, all_units, edf_volume}
 use Rattle.laws_edf.specs.Search.{reads_whole}
 use Rattle.laws_edf.specs.Lacking.{Lacking}
-use Rattle.laws_edf.specs.Touching.{touching_lacks, all_awake_serves}
+use Rattle.laws_edf.proofs.Touching.{touching_lacks, all_awake_serves}
 use Rattle.laws_edf.specs.Rules.{EarliestRule}
-use Rattle.laws_edf.specs.Table.{choice_earliest, fill_awake, fill_feasible, fill_same}
-use Rattle.laws_edf.specs.WorkAlike.{work_alike}
-use Rattle.laws_edf.specs.Whole.{run_greatest, search_finds_run, served_and_lost, all_served}
-use Rattle.laws_edf.specs.Sets.{touching, skeleton_windows}
-use Rattle.laws_edf.specs.Woken.{woken_worth, lacks_if_helps, helps_if_carried, helped_before}
-use Rattle.laws_edf.specs.Room.{no_overload_fits}
-use Rattle.laws_edf.specs.Overload.Counting.{feasible_no_overload}
-use Rattle.laws_edf.specs.Overload.Laws.{shown_some}
-use Rattle.laws_edf.specs.Overload.Ends.{volume_if_inside, shown_deadline, shown_release}
+use Rattle.laws_edf.proofs.Table.{choice_earliest, fill_awake, fill_feasible, fill_same}
+use Rattle.laws_edf.proofs.WorkAlike.{work_alike}
+use Rattle.laws_edf.proofs.Whole.{run_greatest, search_finds_run, served_and_lost, all_served}
+use Rattle.laws_edf.proofs.Sets.{touching, skeleton_windows}
+use Rattle.laws_edf.proofs.Woken.{woken_worth, lacks_if_helps, helps_if_carried, helped_before}
+use Rattle.laws_edf.proofs.Room.{no_overload_fits}
+use Rattle.laws_edf.proofs.Overload.Counting.{feasible_no_overload}
+use Rattle.laws_edf.proofs.Overload.Shown.{shown_some}
+use Rattle.laws_edf.proofs.Overload.Ends.{volume_if_inside, to_deadline, shown_release}
 
 -- The workable volume
 
@@ -138,9 +138,10 @@ no_overload_workable J p free =
     )
 
 no_overload_feasible : (J : Jobs) → Passes J → ((a b : ℕ) → overloaded J a b ≡ false) → (table : List ℕ) × Feasible J table
+unfolding table_of
 no_overload_feasible J p free =
     let all = replicate J.horizon true in
-    (table_of J all, table_feasible J all p (length-replicate J.horizon true) (no_overload_workable J p free))
+    (table_of J all, any_rule_feasible J (choice J) all p (choice_earliest J) (length-replicate J.horizon true) (no_overload_workable J p free))
 
 -- There is a feasible table exactly where no interval is overloaded.
 pub feasible_iff_no_overload : (J : Jobs) → Passes J → ((table : List ℕ) × Feasible J table) ↔ ((a b : ℕ) → overloaded J a b ≡ false)
@@ -159,4 +160,7 @@ large_volume_overfull J j p l large =
 -- The interval that is shown begins with a job's release and ends with a job's deadline.
 pub shown_ends : (J : Jobs) (i : Interval) → Passes J → shown_overload J ≡ some i →
     ((k : ℕ) × (k < count J) × (release J k ≡ i.a)) × ((k : ℕ) × (k < count J) × (deadline J k ≡ i.b))
-shown_ends J i p e = let s = shown_some J i e in (shown_release J p i s, shown_deadline J p i s)
+shown_ends J i p e =
+    let s = shown_some J i e in
+    let r = to_deadline J p i.a i.b s.over in
+    (shown_release J p i s, (r.0, r.1, omega (arith, r.2, s.least i.a (deadline J r.0) r.3)))

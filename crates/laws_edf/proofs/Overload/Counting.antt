@@ -12,7 +12,7 @@ use Rattle.sched.specs.Jobs.{Jobs, count, release, deadline}
 use Rattle.sched.specs.Slots.{times}
 use Rattle.sched.specs.Feasible.{Feasible}
 use Rattle.steps.specs.Overload.{overloaded, volume_if, volume_inside}
-use Rattle.laws_edf.specs.Overload.Laws.{not_overfull}
+use Rattle.laws_edf.proofs.Overload.Laws.{not_overfull}
 
 abbrev one : Bool → ℕ
 one true = 1
@@ -69,10 +69,9 @@ hits_most f n a b (x ∷ l) t h = go (ltb x n && f x) refl (hits_most f n a b l 
     go false e ih = omega arith
 
 module _ (J : Jobs) (table : List ℕ) (f : Feasible J table) where
-  -- an interval has a slot for each unit of the jobs inside
-  pub feasible_room : (a b : ℕ) → volume_inside J a b ≤ b - a
+  inside_fits : (a b : ℕ) → volume_inside J a b ≤ b - a
   unfolding volume_inside volume_if
-  feasible_room a b =
+  inside_fits a b =
       let sums : volume_inside J a b ≡ hits inside (count J) table =
       sum_ext (count J) (volume_if J a b) (λ j. elim (inside j) [ true ↦ times j table | false ↦ 0 ]) same ∙ counted inside (count J) table in
       let room = hits_most inside (count J) a b table 0 stands in
@@ -92,4 +91,8 @@ module _ (J : Jobs) (table : List ℕ) (f : Feasible J table) where
 
   -- so a list with a feasible table has no overloaded interval
   pub feasible_no_overload : (a b : ℕ) → overloaded J a b ≡ false
-  feasible_no_overload a b = not_overfull J a b (λ o. omega (arith, o.more, feasible_room a b))
+  feasible_no_overload a b = not_overfull J a b (λ o. omega (arith, o.more, inside_fits a b))
+
+  -- an interval has a slot for each unit of the jobs inside
+  pub feasible_room : (a b : ℕ) → volume_inside J a b ≤ b - a
+  feasible_room a b = inside_fits a b

@@ -12,8 +12,8 @@ use Rattle.sched.specs.Jobs.{Jobs, count, release, deadline, volume}
 use Rattle.sched.specs.Checks.{Passes}
 use Rattle.steps.specs.Overload.{volume_if, volume_inside, shown_overload}
 use Rattle.steps.specs.Overload.{Overfull}
-use Rattle.laws_edf.specs.Overload.Laws.{shows, shows_one}
-use Rattle.laws_edf.specs.Overload.Ends.{volume_if_inside, volume_early, volume_late}
+use Rattle.laws_edf.proofs.Overload.Shown.{shows, shows_one}
+use Rattle.laws_edf.proofs.Overload.Ends.{volume_if_inside, volume_early, volume_late}
 use Rattle.laws_edf.specs.Overload.Order.{AtMost, InOrder}
 use Rattle.laws_edf.specs.Overload.Search.{start_for, start_or, Visited, Starts}
 

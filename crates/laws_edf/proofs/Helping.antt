@@ -7,10 +7,10 @@ use Rattle.laws_edf.specs.Run.{Spans, State, Eligible, chosen, after, vol, left}
 use Rattle.laws_edf.specs.Pick.{View, view}
 use Rattle.laws_edf.specs.Units.{OneMore}
 use Rattle.laws_edf.specs.Apart.{Step, stays, moves, meets}
-use Rattle.laws_edf.specs.Left.{same_left, one_less_left, left_asleep}
+use Rattle.laws_edf.proofs.Left.{same_left, one_less_left, left_asleep}
 use Rattle.laws_edf.specs.Lacking.{Carry, Lacking}
-use Rattle.laws_edf.specs.Carry.{carry_more, carry_eligible}
-use Rattle.laws_edf.specs.OneSlotMore.{Extra, Gap, closed, open_at, extra_step, extra_apart, apart_step, gap, extra_leaves_less}
+use Rattle.laws_edf.proofs.Carry.{carry_more, carry_eligible}
+use Rattle.laws_edf.proofs.OneSlotMore.{Extra, Gap, closed, open_at, extra_step, extra_apart, apart_step, gap, extra_leaves_less}
 
 module _ (F : Spans) (S S' : ℕ → Bool) (p : State) (x H : ℕ) (c : Extra S S' x) where
   -- one slot more serves as many units, or one more

@@ -11,9 +11,9 @@ use Rattle.steps.specs.Workable.{units}
 use Rattle.laws_edf.specs.Run.{State, spans, vol, final, bytes, all_units}
 use Rattle.laws_edf.specs.Placed.{AllPlaced}
 use Rattle.laws_edf.specs.Units.{sum_one_more}
-use Rattle.laws_edf.specs.Find.{part_positive}
-use Rattle.laws_edf.specs.Left.{served_and_left}
-use Rattle.laws_edf.specs.Placements.{units_empty, units_job, units_none, placed_at_most, bytes_long, bytes_times, run_placed}
+use Rattle.laws_edf.proofs.Find.{part_positive}
+use Rattle.laws_edf.proofs.Left.{served_and_left}
+use Rattle.laws_edf.proofs.Placements.{units_empty, units_job, units_none, placed_at_most, bytes_long, bytes_times, run_placed}
 
 -- the units of a placement, job by job
 pub units_by_job : (J : Jobs) (placed : List ℕ) → units J placed ≡ sum_below (count J) (λ j. times j placed)

@@ -5,8 +5,8 @@ use Rattle.sched.specs.Jobs.{Jobs, volume}
 use Rattle.sched.specs.Checks.{Passes}
 use Rattle.steps.specs.Overload.{volume_if, volume_inside, overloaded}
 use Rattle.laws_edf.specs.Run.{spans}
-use Rattle.laws_edf.specs.Shortage.{units_inside}
-use Rattle.laws_edf.specs.Touching.{Fits}
+use Rattle.laws_edf.proofs.Shortage.{units_inside}
+use Rattle.laws_edf.proofs.Touching.{Fits}
 
 not_overloaded : (J : Jobs) (a b : ℕ) → overloaded J a b ≡ false → a < b → b ≤ J.horizon → volume_inside J a b ≤ b - a
 unfolding overloaded

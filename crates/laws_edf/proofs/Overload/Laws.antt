@@ -31,14 +31,14 @@ module _ (J : Jobs) where
   not_overfull a b n = by_bool (overloaded J a b) (λ t. absurd (n (overfull a b t))) (λ f. f)
 
   -- some overloaded interval ends at b
-  ends_at : ℕ → Bool
+  unfoldable pub ends_at : ℕ → Bool
   ends_at b = any_below b (λ a. overloaded J a b)
 
-  ends_at_lem : (a b : ℕ) → Overfull J a b → ends_at b ≡ true
+  pub ends_at_lem : (a b : ℕ) → Overfull J a b → ends_at b ≡ true
   unfolding ends_at
   ends_at_lem a b o = any_intro b _ a o.span (overfull_overloaded a b o)
 
-  shows_start : (b : ℕ) → LeastIn 1 J.horizon ends_at b → (o : Option ℕ) → last_below b (λ a. overloaded J a b) ≡ o → ShowsAll J (elim o [ none ↦ none | some a ↦ some (record { a = a; b = b }) ])
+  pub shows_start : (b : ℕ) → LeastIn 1 J.horizon ends_at b → (o : Option ℕ) → last_below b (λ a. overloaded J a b) ≡ o → ShowsAll J (elim o [ none ↦ none | some a ↦ some (record { a = a; b = b }) ])
   unfolding ends_at
   shows_start b first none e =
       let r = any_elim b _ first.holds in
@@ -61,41 +61,3 @@ module _ (J : Jobs) where
           go : Dec (a < x) → x ≤ a
           go (yes m) = true_not_false (overloaded J x b) (overfull_overloaded x b o) (l.last x m o.span)
           go (no m) = omega arith
-
-  pub shows : ShowsAll J (shown_overload J)
-  unfolding shown_overload overload_ending_at ends_at
-  shows = go (least_from J.horizon 1 ends_at) refl
-    where
-      go : (o : Option ℕ) → least_from J.horizon 1 ends_at ≡ o → ShowsAll J (elim o [ none ↦ none | some b ↦ overload_ending_at J b ])
-      go none e = λ a b o. true_not_false (ends_at b) (ends_at_lem a b o) (least_none J.horizon 1 ends_at e b (omega (arith, o.span)) (omega (arith, o.within)))
-      go (some b) e = shows_start b (least_some J.horizon 1 ends_at b e) (last_below b (λ a. overloaded J a b)) refl
-
-  -- only one answer says what holds
-  pub shows_one : (o p : Option Interval) → ShowsAll J o → ShowsAll J p → o ≡ p
-  shows_one none none x y = refl
-  shows_one none (some j) x y = absurd (x j.a j.b y.over)
-  shows_one (some i) none x y = absurd (y i.a i.b x.over)
-  shows_one (some i) (some j) x y = ap (λ (k : Interval). some k) same
-    where
-      eb : i.b ≡ j.b
-      eb = omega (arith, x.least j.a j.b y.over, y.least i.a i.b x.over)
-
-      ea : i.a ≡ j.a
-      ea = omega (arith, x.greatest j.a (rw eb y.over), y.greatest i.a (rw (← eb) x.over))
-
-      same : i ≡ j
-      same = λ k. record { a = ea k; b = eb k }
-
-  pub shown_none : shown_overload J ≡ none → (a b : ℕ) → overloaded J a b ≡ false
-  shown_none e a b = not_overfull a b ((subst (ShowsAll J) e shows) a b)
-
-  -- an overloaded interval: so one is shown
-  pub some_shown : (a b : ℕ) → Overfull J a b → (i : Interval) × (shown_overload J ≡ some i)
-  some_shown a b over = go (shown_overload J) refl
-    where
-      go : (o : Option Interval) → shown_overload J ≡ o → (i : Interval) × (shown_overload J ≡ some i)
-      go none e = absurd ((subst (ShowsAll J) e shows) a b over)
-      go (some i) e = (i, e)
-
-  pub shown_some : (i : Interval) → shown_overload J ≡ some i → Shown J i
-  shown_some i e = subst (ShowsAll J) e shows

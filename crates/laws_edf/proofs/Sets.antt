@@ -8,8 +8,8 @@ use Rattle.sched.specs.Jobs.{Jobs, count, release, deadline}
 use Rattle.sched.specs.Slots.{awake, awake_before, touches, wake_slot}
 use Rattle.steps.specs.Skeleton.{in_window, is_skeleton}
 use Rattle.laws_edf.specs.Run.{spans}
-use Rattle.laws_edf.specs.OneSlotMore.{Extra}
-use Rattle.laws_edf.specs.Touching.{NextToAwake, Window}
+use Rattle.laws_edf.proofs.OneSlotMore.{Extra}
+use Rattle.laws_edf.proofs.Touching.{NextToAwake, Window}
 
 pub woken_extra : (S : List Bool) (x : ℕ) → x < length S → awake S x ≡ false → Extra (awake S) (awake (wake_slot S x)) x
 woken_extra S x l e =

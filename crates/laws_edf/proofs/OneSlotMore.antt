@@ -11,9 +11,9 @@ use Rattle.sched.specs.Bounded.Laws.{lt_suc}
 use Rattle.laws_edf.specs.Run.{Spans, State, chosen, lowered, after, gain, left}
 use Rattle.laws_edf.specs.Pick.{Chosen, View, view}
 use Rattle.laws_edf.specs.Units.{OneMore, lowered_less, less_everywhere}
-use Rattle.laws_edf.specs.Left.{left_asleep}
+use Rattle.laws_edf.proofs.Left.{left_asleep}
 use Rattle.laws_edf.specs.Lacking.{Carry}
-use Rattle.laws_edf.specs.Carry.{carry_later, own_carry}
+use Rattle.laws_edf.proofs.Carry.{carry_later, own_carry}
 use Rattle.laws_edf.specs.Apart.{Step, stays, moves, meets, step}
 
 -- S' is S with slot x awake as well

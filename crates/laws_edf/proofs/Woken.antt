@@ -14,10 +14,10 @@ use Rattle.steps.specs.Workable.{workable}
 use Rattle.steps.specs.Extension.{helps}
 use Rattle.laws_edf.specs.Run.{spans, left, edf_volume}
 use Rattle.laws_edf.specs.Lacking.{Carry, Lacking}
-use Rattle.laws_edf.specs.OneSlotMore.{Extra}
-use Rattle.laws_edf.specs.Helping.{extra_worth, helping_lacks, carried_helps, helps_before}
-use Rattle.laws_edf.specs.Whole.{search_finds_run}
-use Rattle.laws_edf.specs.Sets.{woken_extra, wake_awake}
+use Rattle.laws_edf.proofs.OneSlotMore.{Extra}
+use Rattle.laws_edf.proofs.Helping.{extra_worth, helping_lacks, carried_helps, helps_before}
+use Rattle.laws_edf.proofs.Whole.{search_finds_run}
+use Rattle.laws_edf.proofs.Sets.{woken_extra, wake_awake}
 
 -- the deadlines lie within the horizon
 abbrev Within : Jobs → Type 0

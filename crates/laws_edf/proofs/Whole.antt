@@ -9,8 +9,8 @@ use Rattle.sched.specs.Slots.{awake}
 use Rattle.steps.specs.Workable.{Placement, Greatest, workable}
 use Rattle.laws_edf.specs.Run.{spans, vol, left, bytes, all_units, edf_volume}
 use Rattle.laws_edf.specs.Placed.{PlacedFrom}
-use Rattle.laws_edf.specs.Left.{vol_and_left}
-use Rattle.laws_edf.specs.Placements.{placed_at_most, bytes_long, bytes_units, run_placed}
+use Rattle.laws_edf.proofs.Left.{vol_and_left}
+use Rattle.laws_edf.proofs.Placements.{placed_at_most, bytes_long, bytes_units, run_placed}
 use Rattle.laws_edf.specs.Search.{reads_whole, search_is_run}
 
 module _ (J : Jobs) (S : List Bool) where

@@ -4,7 +4,7 @@ use Rattle.std.proofs.Common.{inl, inr, arith}
 use Rattle.std.proofs.Math.Decide.{dec_le, dec_lt}
 use Rattle.laws_edf.specs.Run.{Spans, State, Eligible}
 use Rattle.laws_edf.specs.Lacking.{Carry}
-use Rattle.laws_edf.specs.Find.{dec_both, find}
+use Rattle.laws_edf.proofs.Find.{dec_both, find}
 
 pub carry_later : (F : Spans) (e e' t : ℕ) (L : State) → e ≤ e' → Carry F e t L → Carry F e' t L
 carry_later F e e' t L l c =

@@ -17,12 +17,12 @@ use Rattle.steps.specs.Table.{Rule, runnable, choice, run_byte, serve, latest_of
 use Rattle.steps.specs.Workable.{lower}
 use Rattle.laws_edf.specs.Run.{State, Eligible, spans, chosen, lowered, after, gain, vol, final, all_units}
 use Rattle.laws_edf.specs.Rules.{Soonest, OneOf, EarliestRule}
-use Rattle.laws_edf.specs.GoesOn.{goes_on_one}
+use Rattle.laws_edf.proofs.GoesOn.{goes_on_one}
 use Rattle.laws_edf.specs.Units.{lowered_there, lowered_elsewhere, lowered_less, sum_one_more}
-use Rattle.laws_edf.specs.Left.{served_and_left, final_late}
-use Rattle.laws_edf.specs.AnyTie.{Sooner, sooner_step}
+use Rattle.laws_edf.proofs.Left.{served_and_left, final_late}
+use Rattle.laws_edf.proofs.AnyTie.{Sooner, sooner_step}
 use Rattle.laws_edf.specs.Search.{state_of, state_lowered, Reads, reads_head, reads_tail}
-use Rattle.laws_edf.specs.Find.{part_positive}
+use Rattle.laws_edf.proofs.Find.{part_positive}
 
 -- The rule of step 4 is one of them.
 pub choice_earliest : (J : Jobs) → EarliestRule J (choice J)

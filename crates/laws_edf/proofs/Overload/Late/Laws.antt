@@ -14,7 +14,7 @@ use Rattle.sched.specs.Checks.{Passes}
 use Rattle.steps.specs.Overload.{volume_if, volume_inside}
 use Rattle.laws_edf.specs.Units.{sum_more}
 use Rattle.steps.specs.Overload.{Overfull}
-use Rattle.laws_edf.specs.Overload.Ends.{counts, counts_not}
+use Rattle.laws_edf.proofs.Overload.Ends.{counts, counts_not}
 use Rattle.laws_edf.specs.Overload.Late.{served_if, served_inside, Busy, Ran, Stint}
 
 module _ (J : Jobs) (L : ℕ → ℕ) (a b j : ℕ) where
