@@ -8,16 +8,9 @@ use Rattle.sched.specs.Slots.{awake}
 use Rattle.laws_edf.specs.Orders.{Sorted, job_at}
 use Rattle.laws_edf.specs.Run.{spans, bytes, final, left}
 pub mod Ends
-pub mod Turns
 pub mod Served
-pub mod Alike
 pub mod Keeping
 pub mod Start
-pub mod Ahead
-pub mod Ranked
-pub mod Storing
-pub mod Theorems
-pub mod Missing
 
 -- One more than the last slot below s that holds j, or 0. To search from s downwards is to step from s to its predecessor.
 unfoldable pub end_below : ℕ → ℕ → List ℕ → ℕ

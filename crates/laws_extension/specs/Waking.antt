@@ -5,7 +5,6 @@ use Rattle.sched.specs.Slots.{awake, touches, wake_slot}
 use Rattle.steps.specs.Workable.{workable}
 use Rattle.steps.specs.Skeleton.{is_skeleton}
 use Rattle.steps.specs.Extension.{wakeable}
-pub mod Laws
 pub mod Cursor
 
 -- a turn that wakes slot t

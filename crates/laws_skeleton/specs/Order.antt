@@ -3,7 +3,6 @@ use Rattle.std.specs.Prelude.{ℕ, ◌≤◌, ◌<◌}
 use mathlib.Core.List.{List, [], ◌∷◌, Memᴰ as Among}
 use Rattle.sched.specs.Jobs.{Jobs, count}
 use Rattle.laws_skeleton.specs.Windows.{window_end}
-pub mod Laws
 
 -- no job stands behind one whose window ends later
 abbrev pub Rising : Jobs → List ℕ → Type 0

@@ -4,9 +4,6 @@
 -- where the slot before is awake. `due c t` says that t is the last slot allowed to a window that no slot from c on has met so far.
 use Rattle.std.specs.Prelude.{ℕ, zero, suc, ◌+◌, ◌*◌, min, ◌≡◌, Bool, true, false, ◌&&◌, ◌||◌, List, [], ◌∷◌, ltb}
 use Rattle.sched.specs.Energy.{awake_slots, runs_from}
-pub mod Clauses
-pub mod Exchange
-pub mod Built
 
 -- what a set costs from state b on; 01's energy is this at the state before slot 0
 abbrev pub cost : ℕ → Bool → List Bool → ℕ

@@ -10,12 +10,6 @@ use Rattle.std.specs.Prelude.{ℕ, zero, suc, ◌+◌, ◌-◌, Bool, true, fals
 use Rattle.sched.specs.Jobs.{Jobs}
 use Rattle.sched.specs.Runs.{Run}
 use Rattle.laws_skeleton.specs.Windows.{window_start, window_end}
-pub mod Clauses
-pub mod Until
-pub mod Choice
-pub mod Values
-pub mod Laws
-pub mod Bounds
 
 -- The cost from slot s on when sleep begins there: the first job of the order whose window starts at s or later is the one to wake for.
 -- `vs` has the numbers of the jobs `js`.

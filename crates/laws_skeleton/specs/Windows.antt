@@ -3,7 +3,6 @@ use Rattle.std.specs.Prelude.{ℕ, ◌-◌, min, Bool, ◌&&◌, List, leb, eqb}
 use Rattle.sched.specs.Bounded.{any_below}
 use Rattle.sched.specs.Jobs.{Jobs, count, release, deadline}
 use Rattle.laws_skeleton.specs.Recursion.{least, built}
-pub mod Laws
 
 -- the first and the last slot of job j's window
 abbrev pub window_start : Jobs → ℕ → ℕ

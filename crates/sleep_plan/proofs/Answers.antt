@@ -14,7 +14,7 @@ use Rattle.sched.specs.Checks.{Passes}
 use Rattle.sched.specs.Checks.Laws.{passes_passed}
 use Rattle.steps.specs.Outcomes.{Plan, planned, plan}
 use Rattle.sched.specs.Answers.{outcome_number, outcome_values}
-use Rattle.steps.specs.Outcomes.Laws.{early_short, plan_ended}
+use Rattle.steps.proofs.Outcomes.Laws.{early_short, plan_ended}
 use Rattle.sched.specs.declared.Refusal.TheVariants.{TooShort}
 use Rattle.sched.specs.declared.PlanFigures.{PlanFigures}
 use Rattle.sched.specs.declared.Outcome.{Outcome}

@@ -13,11 +13,11 @@ use Rattle.sched.specs.Checks.{Passes}
 use Rattle.sched.specs.Buffers.{poured}
 use Rattle.sched.specs.Slots.{idle}
 use Rattle.laws_skeleton.specs.Order.{Order}
-use Rattle.laws_skeleton.specs.Order.Laws.{order_behind}
+use Rattle.laws_skeleton.proofs.Order.Laws.{order_behind}
 use Rattle.laws_skeleton.specs.Runs.{values, runs_of, first_end, run_up_to, runs_from_start, spread}
-use Rattle.laws_skeleton.specs.Runs.Clauses.{first_none, first_some}
-use Rattle.laws_skeleton.specs.Runs.Values.{run_end_inside}
-use Rattle.laws_skeleton.specs.Theorems.{start_runs_are_least}
+use Rattle.laws_skeleton.proofs.Runs.Clauses.{first_none, first_some}
+use Rattle.laws_skeleton.proofs.Runs.Values.{run_end_inside}
+use Rattle.laws_skeleton.proofs.Theorems.{start_runs_are_least}
 use Rattle.step2_skeleton.specs.Marks.{marked}
 use Rattle.step2_skeleton.specs.Places.{largest, AtMostFrom, Placeable, Windows, Untils, Priced, Fresh, Frontable, FrontFrom, Drawable, Drawn, Markable, MarkableWindows, MarkedWindows}
 use Rattle.orders.specs.Fronts.{blank, front_length, front_filled, filled_front_length}

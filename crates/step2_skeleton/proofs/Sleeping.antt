@@ -14,7 +14,7 @@ use Rattle.sched.specs.Bounded.Laws.{by_bool}
 use Rattle.sched.specs.Jobs.{Jobs}
 use Rattle.laws_skeleton.specs.Windows.{window_start}
 use Rattle.laws_skeleton.specs.Runs.{sleep_cost, through_cost, takes, run_end}
-use Rattle.laws_skeleton.specs.Runs.Clauses.{sleep_none, sleep_wakes, sleep_skips, run_end_none, run_end_takes, run_end_keeps}
+use Rattle.laws_skeleton.proofs.Runs.Clauses.{sleep_none, sleep_wakes, sleep_skips, run_end_none, run_end_takes, run_end_keeps}
 use Rattle.orders.specs.Placing.{map_at}
 use Rattle.step2_skeleton.specs.Places.{one_of, wins, SleepFrom, Rests, EndFrom}
 

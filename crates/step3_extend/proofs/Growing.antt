@@ -16,10 +16,10 @@ use Rattle.sched.specs.Slots.Laws.{awake_of_lem}
 use Rattle.steps.specs.Extension.{helps, wakeable}
 use Rattle.laws_edf.specs.Orders.{job_at}
 use Rattle.laws_extension.specs.Chain.{KeptByRank, tried}
-use Rattle.laws_extension.specs.Chain.Ahead.{ranks_differ}
+use Rattle.laws_extension.proofs.Chain.Ahead.{ranks_differ}
 use Rattle.laws_extension.specs.Chain.Keeping.{run_long, rank_in_time, rank_holds, reach_in}
-use Rattle.laws_extension.specs.Chain.Missing.{kept_set}
-use Rattle.laws_extension.specs.Chain.Theorems.{rank_tests, rank_updates}
+use Rattle.laws_extension.proofs.Chain.Missing.{kept_set}
+use Rattle.laws_extension.proofs.Chain.Theorems.{rank_tests, rank_updates}
 use Rattle.laws_extension.specs.Waking.Cursor.{cursor_after}
 use Rattle.step3_slot.specs.Notes.{Noteable}
 use Rattle.step3_slot.specs.Books.{Tryable, attempt, Attempted}

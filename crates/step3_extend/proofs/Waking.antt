@@ -19,9 +19,9 @@ use Rattle.steps.specs.Extension.{wakeable, next_wake, woken_in, wake_all, exten
 use Rattle.laws_edf.specs.Run.{spans, bytes}
 use Rattle.laws_edf.proofs.Theorems.{unhelpful_stays, some_slot_wakes}
 use Rattle.laws_extension.specs.Waking.{Turn}
-use Rattle.laws_extension.specs.Waking.Laws.{wakes_turn, wake_skeleton}
+use Rattle.laws_extension.proofs.Waking.Laws.{wakes_turn, wake_skeleton}
 use Rattle.laws_extension.specs.Waking.Cursor.{NoneBefore, StaysIdle, cursor_after, next_from}
-use Rattle.laws_extension.specs.Waking.Cursor.Laws.{next_from_lem, none_before_after}
+use Rattle.laws_extension.proofs.Waking.Cursor.Laws.{next_from_lem, none_before_after}
 use Rattle.step3_extend.specs.Turns.{Alone, Extending, Extended}
 
 -- A search that starts at its goal finds it

@@ -12,7 +12,7 @@ use lib.Seq.{get_or-set_same, get_or-set_other}
 use Rattle.laws_edf.specs.Orders.{job_at}
 use Rattle.laws_extension.specs.Chain.{end_below, RankBooks, rank_books, Tried, tried, reaches, gained_at}
 use Rattle.laws_extension.specs.Chain.Ends.{ends_below}
-use Rattle.laws_extension.specs.Chain.Turns.{reaches_not_yet, reaches_no_more, reaches_if, tried_closed, tried_lost, tried_on}
+use Rattle.laws_extension.proofs.Chain.Turns.{reaches_not_yet, reaches_no_more, reaches_if, tried_closed, tried_lost, tried_on}
 use Rattle.step3_slot.specs.Books.{Stops, Gainable, Booked, Tryable, Attempted, attempt}
 use Rattle.step3_slot.specs.Notes.{Noteable, slot_held, Undoable, Undone}
 use Rattle.step3_slot.proofs.Noting.{Noted, noted_start, noted_next, noted_undoable, noted_reach, noted_table}

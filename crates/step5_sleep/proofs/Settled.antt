@@ -15,7 +15,7 @@ use Rattle.sched.specs.Bounded.Laws.{lt_suc}
 use Rattle.sched.specs.Buffers.{poured}
 use Rattle.sched.specs.Slots.{mark_byte, asleep, works}
 use Rattle.steps.specs.Sleep.{stays_awake, sleep_rule}
-use Rattle.steps.specs.Sleep.FromFront.{next_work, slept_from, next_here, next_none, slept_none, slept_work, slept_stretch, rule_from_front}
+use Rattle.steps.proofs.Sleep.FromFront.{next_work, slept_from, next_here, next_none, slept_none, slept_work, slept_stretch, rule_from_front}
 use Rattle.step5_sleep.specs.Settling.{work_ending}
 
 -- the byte of a stretch

@@ -8,5 +8,3 @@ pub mod Table
 pub mod Sleep
 pub mod Steps
 pub mod Outcomes
-pub mod Theorems
-pub mod Cases

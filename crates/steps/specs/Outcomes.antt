@@ -14,7 +14,6 @@ use Rattle.sched.specs.declared.Checked.TheVariants.{Passed, Refused as Faulty}
 use Rattle.sched.specs.declared.PlanFigures.{PlanFigures}
 use Rattle.sched.specs.declared.Outcome.{Outcome}
 use Rattle.sched.specs.declared.Outcome.TheVariants.{Planned, Overloaded, Refused}
-pub mod Laws
 
 -- "energy, awake slots, runs and added; added counts the slots woken in step 3"
 unfoldable pub figures_of : Jobs → List ℕ → ℕ → PlanFigures

@@ -4,10 +4,6 @@ use Rattle.std.specs.Prelude.{ℕ, suc, ◌-◌, Bool, true, false, ◌&&◌, Li
 use Rattle.std.proofs.Math.Option.{Option, none, some}
 use Rattle.sched.specs.Bounded.{least_from, last_below, values_from}
 use Rattle.sched.specs.Slots.{mark_byte, working_of}
-pub mod FromFront
-pub mod Laws
-pub mod Cheapest
-pub mod StartAsleep
 
 -- slot t works; slots outside the list do not
 abbrev pub working : List Bool → ℕ → Bool

@@ -6,8 +6,6 @@ use Rattle.sched.specs.Jobs.{Jobs, total_volume}
 use Rattle.sched.specs.Slots.{awake, touches, wake_slot}
 use Rattle.steps.specs.Workable.{workable}
 use Rattle.steps.specs.Extension.{helps, wakeable}
-pub mod Laws
-pub mod Once
 
 -- no slot before the cursor can be woken
 abbrev pub NoneBefore : Jobs → List Bool → ℕ → Type 0

@@ -8,7 +8,7 @@ use native.Mathlib.Omega.{arith}
 use lib.Seq.{length-take-le}
 use Rattle.sched.specs.Jobs.{Jobs, jobs_from}
 use Rattle.steps.specs.Outcomes.{early_answer}
-use Rattle.steps.specs.Outcomes.Laws.{early_open}
+use Rattle.steps.proofs.Outcomes.Laws.{early_open}
 use Rattle.front.specs.Early.Laws.{ended_some, open_none}
 use Rattle.orders.specs.Fronts.{blank, front_length}
 use Rattle.planner.specs.Promises.Laws.{answered_early, steps_planned}

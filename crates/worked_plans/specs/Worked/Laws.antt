@@ -14,7 +14,7 @@ use Rattle.steps.specs.Skeleton.{least_skeleton}
 use Rattle.steps.specs.Extension.{woken}
 use Rattle.steps.specs.Steps.{plan_table}
 use Rattle.steps.specs.Outcomes.{Plan, early_answer, planned, plan}
-use Rattle.steps.specs.Outcomes.Laws.{plan_goes_on}
+use Rattle.steps.proofs.Outcomes.Laws.{plan_goes_on}
 use Rattle.worked_plans.specs.Worked.{Worked, Rival, Row, order_for, sevens, found, Cheaper, Right}
 
 unfoldable pub cheaper_test : Worked → Option Rival → Bool

@@ -1,0 +1,9 @@
+pub mod Cases
+pub mod Enumeration
+pub mod Order
+pub mod Precedence
+pub mod Recursion
+pub mod Rival
+pub mod Runs
+pub mod Theorems
+pub mod Windows

@@ -1,0 +1,3 @@
+pub mod Built
+pub mod Clauses
+pub mod Exchange

@@ -1,0 +1,4 @@
+pub mod Cases
+pub mod Outcomes
+pub mod Sleep
+pub mod Theorems

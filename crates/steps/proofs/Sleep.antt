@@ -1,0 +1,4 @@
+pub mod Cheapest
+pub mod FromFront
+pub mod Laws
+pub mod StartAsleep

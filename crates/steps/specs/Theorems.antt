@@ -1,2 +1,0 @@
--- What is proved of the planner's answer itself, for a reader to cite.
-pub mod TellsJob
