@@ -5,7 +5,7 @@ use mathlib.Core.List.{List}
 use native.Mathlib.Omega.{arith}
 use Rattle.sched.specs.Jobs.{jobs_from}
 use Rattle.sched.specs.Checks.{length_check, list_check}
-use Rattle.sched.specs.Checks.Laws.{passed_passes, length_good}
+use Rattle.sched.proofs.Checks.Laws.{passed_passes, length_good}
 use Rattle.steps.proofs.Outcomes.Laws.{early_faulty, early_length, early_overload, early_none}
 use Rattle.sched.specs.declared.Checked.TheVariants.{Passed as Ok, Refused as Faulty}
 use Rattle.sched.specs.declared.Refusal.{Refusal}

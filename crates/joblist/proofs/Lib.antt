@@ -2,3 +2,6 @@
 pub mod Walk
 pub mod Promises
 pub mod Spelling
+pub mod Cases
+pub mod Laws
+pub mod Theorems

@@ -8,7 +8,7 @@ use lib.ListN.{length}
 use lib.Seq.{sets, sets-eq}
 use Rattle.sched.specs.Jobs.{Jobs}
 use Rattle.sched.specs.Checks.{and_then, length_check, job_check, check_of}
-use Rattle.sched.specs.Checks.Laws.{then_passed, then_fails, then_passes, length_good}
+use Rattle.sched.proofs.Checks.Laws.{then_passed, then_fails, then_passes, length_good}
 use Rattle.sched.specs.declared.Refusal.{Refusal}
 use Rattle.sched.specs.declared.Checked.{Checked}
 use Rattle.sched.specs.declared.Checked.TheVariants.{Passed, Refused as Faulty}
@@ -17,7 +17,7 @@ use Rattle.joblist.specs.Reading.{behind_header, read_check, Reading, reading, a
 use Rattle.joblist.specs.Bytes.{spelling, entries_bytes}
 use Rattle.joblist.specs.Writing.{spell_check, Writing, written_if, writing, written_number, written_values, WritePromise}
 use Rattle.joblist.specs.Parts.{HeaderOf, front_check, Filled}
-use Rattle.joblist.specs.Laws.Input.{reading_accepted, reading_refused}
+use Rattle.joblist.proofs.Laws.Input.{reading_accepted, reading_refused}
 use Rattle.joblist.specs.declared.ListHeader.{ListHeader}
 use Rattle.joblist.specs.declared.ListRead.{ListRead}
 use Rattle.joblist.specs.declared.ListRead.TheVariants.{Read, Refused}

@@ -8,7 +8,7 @@ use lib.ListN.{length, get_or, drop, length-append, drop_of_length-le}
 use lib.Seq.{drop-cons, sets}
 use Rattle.sched.specs.Jobs.{Jobs}
 use Rattle.sched.specs.Buffers.{PutAt}
-use Rattle.sched.specs.Buffers.Laws.{sets_append, put_length}
+use Rattle.sched.proofs.Buffers.Laws.{sets_append, put_length}
 use Rattle.list_parts.specs.Header.{header_length, header}
 use Rattle.list_parts.specs.Layout.{entry_bytes}
 use Rattle.joblist.specs.Bytes.{entries_bytes, spelling}

@@ -6,7 +6,7 @@ use mathlib.Core.List.{List}
 use native.Mathlib.Omega.{arith}
 use lib.ListN.{length, drop, set, length-drop}
 use Rattle.sched.specs.Checks.{job_check}
-use Rattle.sched.specs.Checks.Laws.{refused_not_passed}
+use Rattle.sched.proofs.Checks.Laws.{refused_not_passed}
 use Rattle.sched.specs.declared.Refusal.{Refusal}
 use Rattle.sched.specs.declared.Refusal.TheVariants.{LeftOver}
 use Rattle.sched.specs.declared.Checked.{Checked}
@@ -16,9 +16,9 @@ use Rattle.list_parts.specs.Parts.{entry_of}
 use Rattle.list_parts.specs.declared.entry.Fields.{Fields}
 use Rattle.list_parts.specs.declared.entry.Entry.{Entry}
 use Rattle.list_parts.specs.declared.entry.Entry.TheVariants.{Read, Refused}
-use Rattle.list_parts.specs.Laws.Walk.{entries_next, entries_stop, entries_left_over, entries_end, ColumnTo, column_next, column_end}
-use Rattle.list_parts.specs.Laws.Entry.{entry_passed}
-use Rattle.list_parts.specs.Laws.Parts.{told_read, told_refused}
+use Rattle.list_parts.proofs.Laws.Walk.{entries_next, entries_stop, entries_left_over, entries_end, ColumnTo, column_next, column_end}
+use Rattle.list_parts.proofs.Laws.Entry.{entry_passed}
+use Rattle.list_parts.proofs.Laws.Parts.{told_read, told_refused}
 use Rattle.joblist.specs.Reading.{behind_header}
 use Rattle.joblist.specs.Parts.{Loadable, Walked}
 

@@ -3,6 +3,3 @@ pub mod Bytes
 pub mod Reading
 pub mod Writing
 pub mod Parts
-pub mod Laws
-pub mod Theorems
-pub mod Cases

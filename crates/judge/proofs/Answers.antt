@@ -5,7 +5,7 @@ use mathlib.Core.List.{List}
 use lib.ListN.{length, take}
 use Rattle.sched.specs.Jobs.{Jobs}
 use Rattle.sched.specs.Checks.{and_then, length_check, check_of}
-use Rattle.sched.specs.Checks.Laws.{then_fails, then_passes}
+use Rattle.sched.proofs.Checks.Laws.{then_fails, then_passes}
 use Rattle.sched.specs.Energy.{table_figures}
 use Rattle.sched.specs.declared.Checked.{Checked}
 use Rattle.sched.specs.declared.Checked.TheVariants.{Passed, Refused as Faulty}
@@ -14,8 +14,8 @@ use Rattle.judge.specs.declared.Judged.{Judged}
 use Rattle.judge.specs.declared.Judged.TheVariants.{Refused}
 use Rattle.judge.specs.Faults.{slot_fault, faults_check}
 use Rattle.judge.specs.Verdict.{accepts, judge_check, judged, judged_number, judged_values, Just, Judges}
-use Rattle.judge.specs.Verdict.Laws.{faults_decide}
-use Rattle.judge.specs.Theorems.{accepted_checked, judge_is_just}
+use Rattle.judge.proofs.Verdict.Laws.{faults_decide}
+use Rattle.judge.proofs.Theorems.{accepted_checked, judge_is_just}
 
 module _ (J : Jobs) (table : List ℕ) where
   judges : (c : Checked) (answer : Judged) → judge_check J table ≡ c → answer ≡ accepts c (table_figures J (take J.horizon table)) → Judges J table answer

@@ -11,15 +11,15 @@ use borrow.Author.Tests.{lt-ltb, le-ltb, ltb-true, leb-false}
 use lib.ListN.{length, get_or, set, take, replicate, length-set, length-replicate, get_or-replicate}
 use lib.Seq.{take_all, get_or-set_same, get_or-set_other}
 use lib.Dec.{leb, ltb}
-use Rattle.sched.specs.Bounded.Laws.{by_bool}
+use Rattle.sched.proofs.Bounded.Laws.{by_bool}
 use Rattle.sched.specs.Slots.{times}
 use Rattle.sched.specs.Checks.{refuse_if, and_then}
 use Rattle.sched.specs.declared.Refusal.{Refusal}
 use Rattle.sched.specs.declared.Refusal.TheVariants.{TooRare}
 use Rattle.sched.specs.declared.Checked.{Checked}
 use Rattle.sched.specs.declared.Checked.TheVariants.{Passed, Refused}
-use Rattle.judge.specs.Faults.Laws.{slot_good}
-use Rattle.sched.specs.Slots.Laws.{times_named, times_unnamed}
+use Rattle.judge.proofs.Faults.Laws.{slot_good}
+use Rattle.sched.proofs.Slots.Laws.{times_named, times_unnamed}
 use Rattle.judge.specs.Faults.{Sized, slot_fault, slot_check, slots_from, rare_from, faults_by, faults_check}
 
 -- the jobs

@@ -6,8 +6,6 @@ use Rattle.sched.specs.Checks.{refuse_if, and_then}
 use Rattle.sched.specs.declared.Checked.{Checked}
 use Rattle.sched.specs.declared.Checked.TheVariants.{Passed}
 use Rattle.sched.specs.declared.Refusal.TheVariants.{BadByte, TooOften, OutOfSpan, TooRare}
-pub mod Laws
-pub mod Feasibility
 
 -- the fields belong together, and there are no more jobs than counters; a list that passes the list checks has both
 pub record Sized (rs ds ps : List ℕ) : Type 0 where

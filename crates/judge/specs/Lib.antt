@@ -2,5 +2,3 @@
 -- the judge is worth.
 pub mod Faults
 pub mod Verdict
-pub mod Theorems
-pub mod Cases

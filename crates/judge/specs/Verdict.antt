@@ -12,7 +12,6 @@ use Rattle.sched.specs.declared.Figures.{Figures}
 use Rattle.judge.specs.declared.Judged.{Judged}
 use Rattle.judge.specs.declared.Judged.TheVariants.{Accepted, Refused}
 use Rattle.judge.specs.Faults.{SlotCheck, slot_fault, faults_by, faults_check}
-pub mod Laws
 
 -- a table without a fault is told its figures
 abbrev pub accepts : Checked → Figures → Judged

@@ -4,7 +4,7 @@ use Rattle.std.proofs.Common.{ap, sym, ◌∙◌, true≢false, inl, inr, arith}
 use Rattle.std.proofs.lemmas.Bool.{false≢true}
 use Rattle.std.proofs.Math.Decide.{dec_lt}
 use Rattle.sched.specs.Bounded.{sum_below}
-use Rattle.sched.specs.Bounded.Laws.{lt_suc}
+use Rattle.sched.proofs.Bounded.Laws.{lt_suc}
 
 pub dec_both : {A B : Type 0} → Dec A → Dec B → Dec (A × B)
 dec_both (yes a) (yes b) = yes (a, b)

@@ -3,10 +3,10 @@ use Rattle.std.specs.Prelude.{ℕ, suc, ◌≤◌, ◌<◌, ◌≡◌, refl, Boo
 use Rattle.std.proofs.Common.{ap, sym, ◌∙◌, arith}
 use Rattle.std.proofs.Math.Decide.{dec_lt}
 use Rattle.sched.specs.Bounded.{sum_below}
-use Rattle.sched.specs.Bounded.Laws.{sum_ext, sum_zero}
+use Rattle.sched.proofs.Bounded.Laws.{sum_ext, sum_zero}
 use Rattle.sched.specs.Jobs.{Jobs, count}
 use Rattle.sched.specs.Slots.{times}
-use Rattle.sched.specs.Slots.Laws.{times_none, times_same, times_other}
+use Rattle.sched.proofs.Slots.Laws.{times_none, times_same, times_other}
 use Rattle.steps.specs.Workable.{units}
 use Rattle.laws_edf.specs.Run.{State, spans, vol, final, bytes, all_units}
 use Rattle.laws_edf.specs.Placed.{AllPlaced}

@@ -5,7 +5,7 @@ use Rattle.std.proofs.Common.{sym, ap₂, subst, ◌∙◌, arith}
 use Rattle.std.proofs.Math.Option.{Option, none, some}
 use borrow.Author.Tests.{leb-true, le-leb, ltb-true, lt-ltb}
 use Rattle.sched.specs.Bounded.{all_below}
-use Rattle.sched.specs.Bounded.Laws.{by_bool, true_not_false, and_true, all_intro, all_elim}
+use Rattle.sched.proofs.Bounded.Laws.{by_bool, true_not_false, and_true, all_intro, all_elim}
 use Rattle.steps.specs.Table.{earlier, earliest, urgent, going_on}
 use Rattle.laws_edf.specs.Pick.{Earliest, EarliestView, earliest_view}
 use Rattle.laws_edf.specs.Rules.{Soonest, OneOf}

@@ -7,7 +7,7 @@ use Rattle.std.proofs.Common.{◌∙◌, inl, inr, arith}
 use Rattle.std.proofs.Math.Bool.{true}
 use Rattle.std.proofs.Math.Option.{Option, none, some}
 use Rattle.std.proofs.Math.Decide.{le_ind, dec_lt}
-use Rattle.sched.specs.Bounded.Laws.{lt_suc}
+use Rattle.sched.proofs.Bounded.Laws.{lt_suc}
 use Rattle.laws_edf.specs.Run.{Spans, State, chosen, lowered, after, gain, left}
 use Rattle.laws_edf.specs.Pick.{Chosen, View, view}
 use Rattle.laws_edf.specs.Units.{OneMore, lowered_less, less_everywhere}

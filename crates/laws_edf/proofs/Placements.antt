@@ -6,10 +6,10 @@ use Rattle.std.proofs.lemmas.Bool.{false≢true}
 use Rattle.std.proofs.Math.Option.{Option, none, some}
 use native.Mathlib.Omega.{arith}
 use Rattle.std.proofs.Math.Decide.{ℕ_discrete}
-use Rattle.sched.specs.Bounded.Laws.{by_bool}
+use Rattle.sched.proofs.Bounded.Laws.{by_bool}
 use Rattle.sched.specs.Jobs.{Jobs, count}
 use Rattle.sched.specs.Slots.{times}
-use Rattle.sched.specs.Slots.Laws.{times_none, times_same, times_other}
+use Rattle.sched.proofs.Slots.Laws.{times_none, times_same, times_other}
 use Rattle.sched.specs.Feasible.{OwnSlot}
 use Rattle.steps.specs.Workable.{units}
 use Rattle.laws_edf.specs.Run.{Spans, State, Eligible, spans, chosen, lowered, after, gain, vol, final, slot_byte, bytes}

@@ -3,7 +3,7 @@ use Rattle.std.specs.Prelude.{ℕ, suc, ◌<◌, ◌≡◌, Bool, true, false, �
 use Rattle.std.proofs.Common.{ap, sym, ◌∙◌, inl, inr, get_or-set_same, get_or-set_other, leb-true}
 use Rattle.std.proofs.lemmas.List.{set-get_or}
 use Rattle.sched.specs.Bounded.{any_below}
-use Rattle.sched.specs.Bounded.Laws.{any_elim, all_elim, and_true, or_left, or_right}
+use Rattle.sched.proofs.Bounded.Laws.{any_elim, all_elim, and_true, or_left, or_right}
 use Rattle.sched.specs.Jobs.{Jobs, count, release, deadline}
 use Rattle.sched.specs.Slots.{awake, awake_before, touches, wake_slot}
 use Rattle.steps.specs.Skeleton.{in_window, is_skeleton}

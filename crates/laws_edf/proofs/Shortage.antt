@@ -5,7 +5,7 @@ use Rattle.std.proofs.Math.Option.{Option, none, some}
 use Rattle.std.proofs.Common.{arith, le-leb, leb-true}
 use Rattle.std.proofs.Math.Decide.{dec_le}
 use Rattle.sched.specs.Bounded.{sum_below}
-use Rattle.sched.specs.Bounded.Laws.{sum_ext, by_bool, and_true}
+use Rattle.sched.proofs.Bounded.Laws.{sum_ext, by_bool, and_true}
 use Rattle.laws_edf.specs.Run.{Spans, State, chosen, lowered, after, left}
 use Rattle.laws_edf.specs.Pick.{View, view}
 use Rattle.laws_edf.specs.Units.{OneMore, lowered_less, sum_one_more}

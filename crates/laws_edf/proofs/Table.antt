@@ -8,10 +8,10 @@ use mathlib.Core.List.{List, [], ◌∷◌}
 use Rattle.std.proofs.Math.Option.{Option, none, some}
 use native.Mathlib.Omega.{arith}
 use Rattle.std.proofs.Math.Decide.{dec_lt, ℕ_discrete}
-use Rattle.sched.specs.Bounded.Laws.{and_true, true_not_false}
+use Rattle.sched.proofs.Bounded.Laws.{and_true, true_not_false}
 use Rattle.sched.specs.Jobs.{Jobs, count, deadline, volume}
 use Rattle.sched.specs.Slots.{awake_of, idle, asleep, times}
-use Rattle.sched.specs.Slots.Laws.{times_none, times_same, times_other}
+use Rattle.sched.proofs.Slots.Laws.{times_none, times_same, times_other}
 use Rattle.sched.specs.Feasible.{OwnSlot, Feasible}
 use Rattle.steps.specs.Table.{Rule, runnable, choice, run_byte, serve, latest_of, fill_by}
 use Rattle.steps.specs.Workable.{lower}

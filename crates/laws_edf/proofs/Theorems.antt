@@ -5,7 +5,7 @@ use Rattle.std.specs.Prelude.{ℕ, suc, ◌-◌, ◌≤◌, ◌<◌, ◌≡◌, 
 use Rattle.std.proofs.Common.{sym, ap, ◌∙◌, arith}
 use Rattle.std.proofs.Math.Option.{Option, none, some}
 use Rattle.std.proofs.lemmas.List.{length-replicate, get_or-replicate}
-use Rattle.sched.specs.Bounded.Laws.{by_bool, true_not_false, sum_term}
+use Rattle.sched.proofs.Bounded.Laws.{by_bool, true_not_false, sum_term}
 use Rattle.sched.specs.Jobs.{Jobs, count, release, deadline, volume, total_volume}
 use Rattle.sched.specs.Checks.{Passes}
 use Rattle.sched.specs.Slots.{awake, awake_of, wake_slot, working_of}

@@ -4,7 +4,7 @@ use Rattle.std.proofs.Math.Bool.{Bool-discrete}
 use Rattle.std.proofs.Common.{inl, inr, arith}
 use Rattle.std.proofs.Math.Decide.{dec_le, dec_lt}
 use Rattle.sched.specs.Bounded.{sum_below}
-use Rattle.sched.specs.Bounded.Laws.{by_bool}
+use Rattle.sched.proofs.Bounded.Laws.{by_bool}
 use Rattle.laws_edf.specs.Run.{Spans, State, left, all_units}
 use Rattle.laws_edf.proofs.Find.{dec_both, find, change, sum_positive}
 use Rattle.laws_edf.specs.Lacking.{Carry, Lossy}

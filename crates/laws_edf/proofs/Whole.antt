@@ -3,7 +3,7 @@ use Rattle.std.specs.Prelude.{ℕ, ◌+◌, ◌≤◌, ◌≡◌, Bool, List, le
 use Rattle.std.proofs.Math.Path.{ap, sym}
 use Rattle.std.proofs.Common.{◌∙◌, arith}
 use Rattle.sched.specs.Bounded.{sum_below}
-use Rattle.sched.specs.Bounded.Laws.{sum_total}
+use Rattle.sched.proofs.Bounded.Laws.{sum_total}
 use Rattle.sched.specs.Jobs.{Jobs, count, volume, total_volume}
 use Rattle.sched.specs.Slots.{awake}
 use Rattle.steps.specs.Workable.{Placement, Greatest, workable}

@@ -10,7 +10,7 @@ use borrow.Author.Tests.{leb-true, le-leb, ltb-true, lt-ltb, ltb-false}
 use Rattle.std.proofs.Math.ListN.{get_or}
 use Rattle.std.proofs.Math.Dec.{leb, ltb}
 use Rattle.sched.specs.Bounded.{sum_below}
-use Rattle.sched.specs.Bounded.Laws.{by_bool, and_true, sum_zero, sum_term}
+use Rattle.sched.proofs.Bounded.Laws.{by_bool, and_true, sum_zero, sum_term}
 use Rattle.sched.specs.Jobs.{Jobs, count, release, deadline}
 use Rattle.steps.specs.Workable.{lower}
 use Rattle.steps.specs.Table.{Rule, runnable, run_byte, serve, latest_of, fill_by}

@@ -3,7 +3,7 @@ use Prim.Native.Nat.{ℕ, zero, suc, ◌≤◌, ◌<◌}
 use Rattle.std.specs.Prelude.{◌≡◌, refl, Bool, true, false, ◌⊎◌, ltb}
 use Rattle.std.proofs.Common.{ap, ◌∙◌, inl, inr, arith, leb-true, ltb-true, ltb-false, le-leb, lt-ltb}
 use Rattle.std.proofs.Math.Option.{Option, none, some}
-use Rattle.sched.specs.Bounded.Laws.{lt_suc, by_bool, true_not_false, and_true}
+use Rattle.sched.proofs.Bounded.Laws.{lt_suc, by_bool, true_not_false, and_true}
 use Rattle.steps.specs.Table.{earliest, earlier}
 use Rattle.laws_edf.specs.Run.{Spans, State, servable, Eligible, pick, chosen}
 

@@ -8,7 +8,7 @@ use Rattle.std.proofs.Math.Decide.{ℕ_discrete, dec_lt}
 use Rattle.std.proofs.Math.ListN.{get_or-eq_default}
 use Rattle.std.proofs.Math.Seq.{set_out}
 use Rattle.sched.specs.Bounded.{max_below}
-use Rattle.sched.specs.Bounded.Laws.{lt_suc, by_bool}
+use Rattle.sched.proofs.Bounded.Laws.{lt_suc, by_bool}
 use Rattle.sched.specs.Jobs.{Jobs, count}
 use Rattle.sched.specs.Slots.{awake}
 use Rattle.steps.specs.Workable.{placeable, lower, most_from}

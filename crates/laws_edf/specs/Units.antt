@@ -4,7 +4,7 @@ use Rattle.std.proofs.Common.{ap, sym, ◌∙◌, arith, eq-eqb, ne_eqb}
 use Rattle.std.proofs.Math.Path.{fun_ext}
 use Rattle.std.proofs.Math.Decide.{ℕ_discrete}
 use Rattle.sched.specs.Bounded.{sum_below}
-use Rattle.sched.specs.Bounded.Laws.{sum_ext}
+use Rattle.sched.proofs.Bounded.Laws.{sum_ext}
 use Rattle.laws_edf.specs.Run.{State, lowered}
 
 -- M has a unit of job k more than L

@@ -5,13 +5,13 @@ use Rattle.sched.specs.Bounded.{total, any_below, all_below, sum_below, max_belo
 use Rattle.sched.specs.Jobs.{Jobs, jobs_from, jobs_of}
 use Rattle.steps.specs.Skeleton.{all_sets, is_skeleton, skeletons, least_of, least_skeleton}
 use Rattle.sched.specs.Energy.{awake_slots, runs_from, table_figures}
-use Rattle.sched.specs.Cases.{third, third_table, start_awake, over_sleep, over_sleep_table}
+use Rattle.sched.proofs.Cases.{third, third_table, start_awake, over_sleep, over_sleep_table}
 use Rattle.steps.specs.Workable.{most_from, workable}
 use Rattle.steps.specs.Extension.{helps, wakeable, next_wake, woken_in, woken, wake_all, extended}
 use Rattle.steps.specs.Table.{earliest, urgent, going_on, fill_by, table_of}
 use Rattle.steps.specs.Sleep.{sleep_rule}
 use Rattle.steps.specs.Steps.{table_from, plan_table}
-use Rattle.laws_rivals.proofs.TieRule.{plan_table_before}
+use Rattle.laws_rivals.specs.TieRule.{plan_table_before}
 
 abbrev card_list : Jobs
 card_list = jobs_of 4 1 (1 ∷ 0 ∷ []) (4 ∷ 4 ∷ []) (2 ∷ 2 ∷ [])

@@ -1,5 +1,4 @@
--- 02, card 6, read off the finished table: which job a working slot runs follows from the list and the slots before it. Step 4 keeps books of the
--- units left and of the latest job as it fills slot after slot; whoever holds the table needs neither these nor the set of slots that was filled.
+-- 02, card 6: which job a slot of the plan runs, by the words of `specs/JobOfSlot`.
 use Rattle.std.specs.Prelude.{ℕ, zero, suc, ◌+◌, ◌-◌, ◌≤◌, ◌<◌, ◌≡◌, Bool, true, false, ◌&&◌, ◌⊎◌, ◌≢◌, length, get_or, take, leb, ltb}
 use Rattle.std.proofs.Math.Path.{refl}
 use Rattle.std.proofs.Common.{sym, ap, ap₂, subst, ◌∙◌, inl, inr, arith, ltb-true, lt-ltb, le-ltb, leb-true, le-leb}
@@ -7,11 +6,11 @@ use mathlib.Core.List.{List, [], ◌∷◌}
 use Rattle.std.proofs.Math.Option.{Option, none, some}
 use Rattle.std.proofs.Math.Decide.{ℕ_discrete, dec_lt}
 use Rattle.sched.specs.Bounded.{last_below}
-use Rattle.sched.specs.Bounded.Laws.{by_bool, and_true, last_some}
+use Rattle.sched.proofs.Bounded.Laws.{by_bool, and_true, last_some}
 use Rattle.sched.specs.Jobs.{Jobs, count, release, deadline, volume}
 use Rattle.sched.specs.Checks.{Passes}
 use Rattle.sched.specs.Slots.{idle, asleep, times, works, working_of}
-use Rattle.sched.specs.Slots.Laws.{times_none, times_named, times_unnamed}
+use Rattle.sched.proofs.Slots.Laws.{times_none, times_named, times_unnamed}
 use Rattle.steps.specs.Workable.{lower}
 use Rattle.steps.specs.Extension.{extended}
 use Rattle.steps.specs.Table.{runnable, going_on, choice, run_byte, serve, latest_of, fill_by, table_of}
@@ -26,38 +25,12 @@ use Rattle.laws_edf.specs.Pick.{First, Earliest}
 use Rattle.laws_edf.proofs.GoesOn.{goes_on, goes_on_one, else_lowest, goes_on_alike}
 use Rattle.laws_edf.proofs.Table.{choice_earliest}
 use Rattle.laws_rivals.proofs.Steps.{from_length, plan_length}
-
--- the byte of this slot, if there is one
-abbrev pub byte_at : List ℕ → Option ℕ → Option ℕ
-byte_at table none = none
-byte_at table (some i) = some (get_or table i 0)
-
--- "the one that ran in the latest earlier working slot", none where no slot before t works
-abbrev pub latest_before : List ℕ → ℕ → Option ℕ
-latest_before table t = byte_at table (work_before (working_of table) t)
+use Rattle.laws_rivals.specs.JobOfSlot.{byte_at, latest_before, open_at, named_job, ByCard, job_in}
 
 -- for slot 1 that is slot 0, and slot 0 has none before it
 pub latest_earlier : (latest_before (1 ∷ 0 ∷ []) 1 ≡ some 1) × (latest_before (1 ∷ 0 ∷ []) 0 ≡ none)
 unfolding last_below
 latest_earlier = (refl, refl)
-
--- "released, unfinished": job j is released by slot t, and fewer of the slots before t run it than its volume has units
-abbrev pub open_at : Jobs → List ℕ → ℕ → ℕ → Bool
-open_at J table t j = leb (release J j) t && ltb (times j (take t table)) (volume J j)
-
--- the job that the card's sentence names for slot t
-abbrev pub named_job : Jobs → List ℕ → ℕ → Option ℕ
-named_job J table t = going_on (deadline J) (open_at J table t) (count J) (latest_before table t)
-
--- if slot t works, it runs that job
-abbrev ByCard : Jobs → List ℕ → ℕ → Type 0
-ByCard J table t = works (get_or table t 0) ≡ true → named_job J table t ≡ some (get_or table t 0)
-
--- Step 4's books, read off the table
-
--- the job of a slot with this byte, if it works
-abbrev job_in : ℕ → Option ℕ
-job_in byte = elim (works byte) [ true ↦ some byte | false ↦ none ]
 
 in_working : (byte : ℕ) → works byte ≡ true → job_in byte ≡ some byte
 in_working byte w = rw (w, job_in)

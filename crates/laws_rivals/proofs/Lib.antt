@@ -1,5 +1,5 @@
 pub mod Cases
-pub mod JobOfSlot
 pub mod Steps
 pub mod Theorems
+pub mod JobOfSlot
 pub mod TieRule

@@ -5,7 +5,7 @@ use Rattle.std.proofs.Common.{sym, ◌∙◌, arith}
 use Rattle.sched.specs.Jobs.{Jobs, total_volume}
 use Rattle.sched.specs.Checks.{Passes}
 use Rattle.sched.specs.Slots.{awake_of, working_of}
-use Rattle.sched.specs.Slots.Laws.{awake_of_length}
+use Rattle.sched.proofs.Slots.Laws.{awake_of_length}
 use Rattle.sched.specs.Energy.{energy}
 use Rattle.sched.specs.Feasible.{Feasible}
 use Rattle.steps.specs.Overload.{overloaded}
@@ -18,9 +18,10 @@ use Rattle.steps.proofs.Sleep.Cheapest.{none_cheaper}
 use Rattle.steps.specs.Steps.{table_from, plan_table}
 use Rattle.laws_edf.proofs.Theorems.{workable_at_most_total, some_slot_wakes, table_keeps_set, table_feasible}
 use Rattle.laws_skeleton.proofs.Theorems.{least_is_skeleton, least_length, least_cheapest}
-use Rattle.laws_skeleton.proofs.Rival.{rival_skeleton, rival_length}
+use Rattle.laws_skeleton.proofs.Rival.Skeleton.{rival_skeleton, rival_length}
 use Rattle.laws_extension.specs.Waking.{AlwaysOne}
-use Rattle.laws_extension.proofs.Waking.Laws.{all_length, woken_energy, woken_full, woken_count}
+use Rattle.laws_extension.proofs.Waking.Turns.{all_length, woken_energy}
+use Rattle.laws_extension.proofs.Waking.Full.{woken_full, woken_count}
 
 pub extended_length : (J : Jobs) → Passes J → length (extended J) ≡ J.horizon
 unfolding extended

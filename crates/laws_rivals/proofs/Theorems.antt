@@ -5,10 +5,10 @@ use Rattle.std.proofs.Common.{subst, ◌∙◌, inl, inr, arith, ltb-true, lt-lt
 use Rattle.std.proofs.Math.Option.{Option, none, some}
 use Rattle.std.proofs.Math.ListN.{take}
 use Rattle.std.proofs.Math.Seq.{take_at}
-use Rattle.sched.specs.Bounded.Laws.{true_not_false}
+use Rattle.sched.proofs.Bounded.Laws.{true_not_false}
 use Rattle.sched.specs.Jobs.{Jobs, count, release, deadline, volume, total_volume}
 use Rattle.sched.specs.Checks.{Passes, job_check}
-use Rattle.sched.specs.Checks.Laws.{job_passes}
+use Rattle.sched.proofs.Checks.Laws.{job_passes}
 use Rattle.sched.specs.Slots.{awake_of, times, idle, asleep, works, working_of}
 use Rattle.sched.specs.Feasible.{Feasible}
 use Rattle.sched.specs.Energy.{energy}
@@ -34,7 +34,7 @@ use Rattle.laws_rivals.specs.Rivals.{Sound, AgainstRivals, CheapestSleep, Report
 use Rattle.laws_edf.proofs.Theorems.{unhelpful_stays, large_volume_overfull}
 use Rattle.laws_skeleton.proofs.Theorems.{least_length}
 use Rattle.laws_extension.specs.Waking.Cursor.{woken_from, tried_from}
-use Rattle.laws_extension.proofs.Waking.Cursor.Laws.{woken_from_lem}
+use Rattle.laws_extension.proofs.Waking.Cursor.From.{woken_from_lem}
 use Rattle.laws_extension.proofs.Waking.Cursor.Once.{tried_once}
 use Rattle.laws_rivals.proofs.Steps.{extended_full, added_is_shortfall, plan_feasible, plan_energy, plan_working, plan_cheapest}
 

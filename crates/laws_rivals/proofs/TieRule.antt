@@ -1,5 +1,4 @@
--- 02, card 6: "Awake slots, energy and added are as before for every list". What was before the card is defined here, to be compared with. Nothing is said
--- of how often the job changes in a table: there are lists with more changes than before (docs/DECISIONS.md).
+-- 02, card 6: what the tie rule leaves as it was, in the words of `specs/TieRule`.
 use Rattle.std.specs.Prelude.{ℕ, ◌≡◌, refl, Bool, List, ◌++◌, length, drop}
 use Rattle.std.proofs.Common.{sym, ap, subst, ◌∙◌, drop_at}
 use Rattle.std.proofs.Math.Option.{Option, none, some}
@@ -7,7 +6,7 @@ use Rattle.std.proofs.lemmas.List.{length-map}
 use Rattle.sched.specs.Jobs.{Jobs, count, deadline}
 use Rattle.sched.specs.Checks.{Passes}
 use Rattle.sched.specs.Slots.{wakeful, awake_of, works, working_of}
-use Rattle.sched.specs.Slots.Laws.{map_append}
+use Rattle.sched.proofs.Slots.Laws.{map_append}
 use Rattle.sched.specs.Energy.{awake_slots, runs, energy}
 use Rattle.steps.specs.Skeleton.{least_skeleton}
 use Rattle.steps.specs.Extension.{woken, extended}
@@ -25,26 +24,8 @@ use Rattle.laws_edf.proofs.GoesOn.{earliest_one}
 use Rattle.laws_edf.proofs.Table.{choice_earliest}
 use Rattle.laws_edf.proofs.Theorems.{any_rules_work_alike}
 use Rattle.laws_rivals.proofs.Steps.{plan_length}
-
--- Before the card
-
--- "on equal deadlines the lowest number", whatever ran last
-abbrev pub choice_before : Jobs → Rule
-choice_before J t left latest = earliest (deadline J) (runnable J t left) (count J)
-
-abbrev pub table_of_before : Jobs → List Bool → List ℕ
-table_of_before J S = fill_by (choice_before J) 0 J.volumes none S
-
-abbrev pub plan_table_before : Jobs → List ℕ
-plan_table_before J = sleep_rule J.wake J.start (table_of_before J (extended J))
-
-abbrev pub planned_before : Jobs → List ℕ → Plan
-planned_before J lent =
-    let table = plan_table_before J in
-    record { answer = Planned (figures_of J table (length (woken J (least_skeleton J)))); table = table ++ drop J.horizon lent }
-
-abbrev pub plan_before : Jobs → List ℕ → Plan
-plan_before J lent = plan_by planned_before J lent
+use Rattle.laws_rivals.specs.TieRule.{choice_before, table_of_before, plan_table_before, planned_before, plan_before, SameSlots, AsBefore}
+pub mod WholePlan
 
 before_earliest : (J : Jobs) → EarliestRule J (choice_before J)
 before_earliest J t left latest = earliest_one (deadline J) (runnable J t left) (count J)
@@ -53,77 +34,3 @@ before_earliest J t left latest = earliest_one (deadline J) (runnable J t left) 
 pub same_work : (J : Jobs) (S : List Bool) → Passes J → working_of (table_of J S) ≡ working_of (table_of_before J S)
 unfolding table_of
 same_work J S p = any_rules_work_alike J (choice J) (choice_before J) S p (choice_earliest J) (before_earliest J)
-
--- The plan's table: the same slots work and the same are awake, and so their number, the runs and the energy are the same.
-pub record SameSlots (J : Jobs) (before after : List ℕ) : Type 0 where
-  pub working_slots : working_of after ≡ working_of before
-  pub same_awake_slots : awake_of after ≡ awake_of before
-  pub same_number : awake_slots (awake_of after) ≡ awake_slots (awake_of before)
-  pub same_runs : runs (awake_of after) ≡ runs (awake_of before)
-  pub same_energy : energy J (awake_of after) ≡ energy J (awake_of before)
-
-pub same_slots : (J : Jobs) → Passes J → SameSlots J (plan_table_before J) (plan_table J)
-unfolding plan_table table_from
-same_slots J p =
-    let S = extended J in
-    let work = same_work J S p in
-    let awake = slept_alike J.wake J.start (table_of J S) (table_of_before J S) work in
-    record {
-      working_slots = working_stays J.wake J.start (table_of J S) ∙ work ∙ sym (working_stays J.wake J.start (table_of_before J S));
-      same_awake_slots = awake;
-      same_number = ap awake_slots awake;
-      same_runs = ap runs awake;
-      same_energy = ap (energy J) awake;
-    }
-
--- What the planner answers and leaves in the lent table. The answer is the same: energy, awake slots, runs and added, or the interval of an overload, or a refusal.
--- In the table the same slots work and are awake, the bytes from H on are the same, and so are all bytes where nothing was planned.
-pub record AsBefore (J : Jobs) (before after : Plan) : Type 0 where
-  pub same_answer : after.answer ≡ before.answer
-  pub same_working : working_of after.table ≡ working_of before.table
-  pub same_awake : awake_of after.table ≡ awake_of before.table
-  pub same_behind : drop J.horizon after.table ≡ drop J.horizon before.table
-  pub same_unplanned : (outcome_number after.answer ≡ 0 → ⊥) → after.table ≡ before.table
-
-unchanged : (J : Jobs) (p : Plan) → AsBefore J p p
-unchanged J p = record { same_answer = refl; same_working = refl; same_awake = refl; same_behind = refl; same_unplanned = λ _. refl }
-
-figures_alike : (J : Jobs) (before after : List ℕ) (added : ℕ) → awake_of after ≡ awake_of before → figures_of J after added ≡ figures_of J before added
-unfolding figures_of
-figures_alike J before after added a =
-    ap (λ (S : List Bool). (record { energy = energy J S; awake = awake_slots S; runs = runs S; added = added })) a
-
--- once the steps are taken
-steps_as_before : (J : Jobs) (lent : List ℕ) → Passes J → AsBefore J (planned_before J lent) (planned J lent)
-unfolding planned
-steps_as_before J lent p =
-    let s = same_slots J p in
-    let rest = drop J.horizon lent in
-    let added = length (woken J (least_skeleton J)) in
-    record {
-      same_answer = ap Planned (figures_alike J (plan_table_before J) (plan_table J) added s.same_awake_slots);
-      same_working = map_append works (plan_table J) rest ∙ ap (λ (W : List Bool). W ++ working_of rest) s.working_slots ∙ sym (map_append works (plan_table_before J) rest);
-      same_awake = map_append wakeful (plan_table J) rest ∙ ap (λ (S : List Bool). S ++ awake_of rest) s.same_awake_slots ∙ sym (map_append wakeful (plan_table_before J) rest);
-      same_behind = drop_at (plan_table J) rest J.horizon long ∙ sym (drop_at (plan_table_before J) rest J.horizon (same_long s ∙ long));
-      same_unplanned = λ n. absurd (n refl);
-    }
-  where
-    long : length (plan_table J) ≡ J.horizon
-    long = plan_length J p
-
-    same_long : SameSlots J (plan_table_before J) (plan_table J) → length (plan_table_before J) ≡ length (plan_table J)
-    same_long s = sym (length-map (plan_table_before J) works) ∙ sym (ap length s.working_slots) ∙ length-map (plan_table J) works
-
--- "as before for every list": for every list, with its wake cost, and every lent table
-pub ties_as_before : (J : Jobs) (lent : List ℕ) → AsBefore J (plan_before J lent) (plan J lent)
-unfolding plan
-ties_as_before J lent = by_early (early_answer J (length lent)) refl
-  where
-    by_early : (o : Option Outcome) → early_answer J (length lent) ≡ o → AsBefore J (plan_before J lent) (plan J lent)
-    by_early (some answer) e =
-        let same : plan J lent ≡ plan_before J lent = plan_ended planned J lent answer e ∙ sym (plan_ended planned_before J lent answer e) in
-        subst (λ (x : Plan). AsBefore J (plan_before J lent) x) (sym same) (unchanged J (plan_before J lent))
-    by_early none e =
-        subst (λ (x : Plan). AsBefore J x (plan J lent)) (sym (plan_goes_on planned_before J lent e))
-        (subst (λ (x : Plan). AsBefore J (planned_before J lent) x) (sym (plan_goes_on planned J lent e))
-        (steps_as_before J lent (early_open J (length lent) e).0))

@@ -12,7 +12,7 @@ use mathlib.Core.List.Memᴰ.{not-nil as nowhere}
 use mathlib.Core.List.Memᴰ.{tail as there}
 use mathlib.Core.List.{List, [], ◌∷◌, ◌++◌, map, Memᴰ as Among}
 use Rattle.sched.specs.Bounded.{keep, first_least}
-use Rattle.sched.specs.Bounded.Laws.{by_bool}
+use Rattle.sched.proofs.Bounded.Laws.{by_bool}
 use Rattle.sched.specs.Jobs.{Jobs}
 use Rattle.sched.specs.Energy.{energy}
 use Rattle.steps.specs.Skeleton.{is_skeleton, skeletons, least_of, least_skeleton, all_sets}

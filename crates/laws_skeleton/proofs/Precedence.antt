@@ -2,7 +2,7 @@
 use Rattle.std.specs.Prelude.{ℕ, zero, suc, ◌<◌, ◌≡◌, refl, Bool, true, false, List, [], ◌∷◌, ◌≢◌}
 use Rattle.std.proofs.Common.{ap, arith}
 use Rattle.sched.specs.Slots.{awake}
-use Rattle.sched.specs.Bounded.Laws.{true_not_false}
+use Rattle.sched.proofs.Bounded.Laws.{true_not_false}
 use Rattle.steps.specs.Skeleton.{Precedes}
 
 pub precedes_both : (S R : List Bool) → Precedes S R → Precedes R S → S ≡ R

@@ -6,7 +6,7 @@ use mathlib.Core.List.{List}
 use lib.ListN.{length, drop}
 use lib.Dec.{ltb, eqb}
 use Rattle.sched.specs.Checks.{and_then, job_check}
-use Rattle.sched.specs.Checks.Laws.{then_fails, then_passes}
+use Rattle.sched.proofs.Checks.Laws.{then_fails, then_passes}
 use Rattle.sched.specs.declared.Refusal.{Refusal}
 use Rattle.sched.specs.declared.Refusal.TheVariants.{Truncated, Redundant}
 use Rattle.sched.specs.declared.Checked.{Checked}
@@ -16,7 +16,7 @@ use Rattle.list_parts.specs.Layout.{deadline_at, volume_at}
 use Rattle.list_parts.specs.Entries.{entry_map, entry_size, value_if, redundant, known_maps, map_check, whole_check, redundancy_check}
 use Rattle.list_parts.specs.Entries.{entry_check}
 use Rattle.list_parts.specs.Parts.{FoundAt, entry_of, job_part}
-use Rattle.list_parts.specs.Laws.Maps.{length_is}
+use Rattle.list_parts.proofs.Laws.Maps.{length_is}
 use Rattle.list_parts.specs.declared.entry.Found.{Found}
 use Rattle.list_parts.specs.declared.entry.Entry.{Entry}
 use Rattle.list_parts.specs.declared.entry.Entry.TheVariants.{Read, Refused}

@@ -1,3 +1,4 @@
 -- What the proofs of several functions cite.
 pub mod Fields
 pub mod Putting
+pub mod Laws

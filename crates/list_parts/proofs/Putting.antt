@@ -6,7 +6,7 @@ use native.Mathlib.Numerals.{add-one}
 use native.Mathlib.Omega.{arith}
 use lib.ListN.{length, set, length-append}
 use Rattle.sched.specs.Buffers.{PutAt}
-use Rattle.sched.specs.Buffers.Laws.{sets_append}
+use Rattle.sched.proofs.Buffers.Laws.{sets_append}
 use Rattle.list_parts.specs.Layout.{absent_release, absent_deadline, absent_volume, stands, bytes_if, job_map, entry_bytes}
 
 pub entry_length : (h r d p : ℕ) →

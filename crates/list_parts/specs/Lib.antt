@@ -3,4 +3,3 @@ pub mod Header
 pub mod Layout
 pub mod Entries
 pub mod Parts
-pub mod Laws

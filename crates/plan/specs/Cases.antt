@@ -7,14 +7,14 @@ use Rattle.sched.specs.Bounded.{total, any_below, sum_below, least_from}
 use Rattle.sched.specs.Checks.{check_from}
 use Rattle.sched.specs.Energy.{awake_slots, runs_from}
 use Rattle.sched.specs.Runs.{leading, run_list_from}
-use Rattle.sched.specs.Cases.{third}
+use Rattle.sched.proofs.Cases.{third}
 use Rattle.sched.specs.declared.Checked.{Checked}
 use Rattle.sched.specs.declared.Outcome.TheVariants.{Planned}
 use Rattle.steps.specs.Overload.{volume_if, volume_inside, overloaded, overload_ending_at, shown_overload}
 use Rattle.steps.specs.Outcomes.{Plan, figures_of, early_answer, planned, plan}
 use Rattle.steps.proofs.Outcomes.Laws.{plan_goes_on}
 use Rattle.worked_plans.specs.Starred.{third_steps}
-use Rattle.joblist.specs.Cases.{third_bytes, third_list, third_passes}
+use Rattle.joblist.proofs.Cases.{third_bytes, third_list, third_passes}
 use Rattle.decimal.specs.Decimal.{digits_in, digits}
 use Rattle.report.specs.Report.{numbers, lines_of, text_of}
 use Rattle.report.specs.Cases.{third_text, truncated_text}

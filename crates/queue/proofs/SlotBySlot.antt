@@ -9,7 +9,7 @@ use native.Mathlib.Numerals.{add-one}
 use lib.ListN.{length, get_or, set, take, length-set}
 use lib.Seq.{set-get_or, get_or-set_other, take-suc-set, take_all, append_snoc}
 use Rattle.sched.specs.Slots.{asleep, awake, awake_of, wakeful}
-use Rattle.sched.specs.Slots.Laws.{awake_of_lem}
+use Rattle.sched.proofs.Slots.Laws.{awake_of_lem}
 use Rattle.laws_edf.specs.Run.{Spans, State, chosen, after, slot_byte, bytes, final}
 use Rattle.laws_edf.specs.Search.{state_of}
 use Rattle.laws_edf.specs.Orders.{Sorted}

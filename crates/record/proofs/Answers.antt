@@ -6,7 +6,7 @@ use lib.ListN.{length, take}
 use Rattle.sched.specs.Slots.{awake_of}
 use Rattle.sched.specs.Energy.{awake_slots}
 use Rattle.sched.specs.Checks.{length_check, slots_check}
-use Rattle.sched.specs.Checks.Laws.{then_fails, then_passes}
+use Rattle.sched.proofs.Checks.Laws.{then_fails, then_passes}
 use Rattle.sched.specs.declared.Checked.{Checked}
 use Rattle.sched.specs.declared.Checked.TheVariants.{Passed, Refused as Faulty}
 use Rattle.sched.specs.declared.Refusal.{Refusal}

@@ -7,7 +7,7 @@ use native.Mathlib.Omega.{arith}
 use lib.ListN.{take, drop}
 use denote.Ref.{Bor}
 use Rattle.sched.specs.TwoBytes.{word}
-use Rattle.sched.specs.Checks.Laws.{then_fails, then_passes}
+use Rattle.sched.proofs.Checks.Laws.{then_fails, then_passes}
 use Rattle.sched.specs.declared.Checked.TheVariants.{Passed, Refused as Faulty}
 use Rattle.sched.specs.declared.Refusal.{Refusal}
 use Rattle.record.specs.declared.RunPlace.{RunPlace}

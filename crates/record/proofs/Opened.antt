@@ -9,7 +9,7 @@ use Rattle.sched.specs.declared.Checked.TheVariants.{Passed}
 use Rattle.record_map.specs.MapBytes.{map_length}
 use Rattle.record_parts.specs.Layout.{behind_map}
 use Rattle.record_parts.specs.Bytes.{map_in, record_check}
-use Rattle.record_parts.specs.Bytes.Laws.{GoodRecord, record_passed, length_map_read}
+use Rattle.record_parts.proofs.Bytes.Laws.{GoodRecord, record_passed, length_map_read}
 
 pub header_within : (bytes : List ℕ) → record_check bytes ≡ Passed → 2 ≤ length bytes
 header_within bytes p = omega (arith, (record_passed bytes p).whole)

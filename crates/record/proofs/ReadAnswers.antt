@@ -8,7 +8,7 @@ use lib.Seq.{take_all, length-take-le}
 use Rattle.sched.specs.TwoBytes.{AreBytes, word}
 use Rattle.sched.specs.Energy.{awake_slots}
 use Rattle.sched.specs.Checks.{length_check}
-use Rattle.sched.specs.Checks.Laws.{then_fails, then_passes, length_good}
+use Rattle.sched.proofs.Checks.Laws.{then_fails, then_passes, length_good}
 use Rattle.sched.specs.declared.Checked.{Checked}
 use Rattle.sched.specs.declared.Checked.TheVariants.{Passed, Refused as Faulty}
 use Rattle.sched.specs.declared.Refusal.{Refusal}
@@ -17,7 +17,7 @@ use Rattle.record.specs.declared.RecordRead.TheVariants.{Read, Refused}
 use Rattle.record_map.specs.MapBits.{bits_of}
 use Rattle.record_parts.specs.Layout.{behind_map}
 use Rattle.record_parts.specs.Bytes.{slots_in, record_check, spread, TableFits}
-use Rattle.record_parts.specs.Bytes.Laws.{GoodRecord, record_passed, length_slots_in, slot_bytes_are_awake, length_spread}
+use Rattle.record_parts.proofs.Bytes.Laws.{GoodRecord, record_passed, length_slots_in, slot_bytes_are_awake, length_spread}
 use Rattle.record.specs.Record.{out_after}
 use Rattle.record.specs.Reading.{table_in, read_check, read_answer, read_number, read_values, Reads}
 use Rattle.record.proofs.Opened.{map_is, map_marks}

@@ -2,5 +2,3 @@
 pub mod Record
 pub mod Reading
 pub mod OneRun
-pub mod Theorems
-pub mod Cases

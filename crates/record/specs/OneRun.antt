@@ -13,7 +13,6 @@ use Rattle.record.specs.declared.RunFound.{RunFound}
 use Rattle.record.specs.declared.RunFound.TheVariants.{Found, Refused}
 use Rattle.record_parts.specs.Layout.{behind_map}
 use Rattle.record_parts.specs.Bytes.{slots_in, record_check}
-pub mod Laws
 
 -- run k of a set, from 0 on, in rising order; where there is none, what stands here is not used
 abbrev pub run_at : List Bool → ℕ → Run

@@ -10,7 +10,6 @@ use Rattle.record.specs.declared.RecordRead.TheVariants.{Read, Refused}
 use Rattle.record_parts.specs.Layout.{behind_map}
 use Rattle.record_parts.specs.Bytes.{slots_in, record_check, spread}
 use Rattle.record.specs.Record.{out_after}
-pub mod Back
 
 -- "then 17 for the table"
 abbrev pub read_check : List ℕ → ℕ → Checked

@@ -10,12 +10,12 @@ use borrow.Author.Tests.{eq-eqb, ne_eqb}
 use lib.ListN.{length, get_or, length-map, get_or-eq_default}
 use lib.Count.{ones}
 use lib.Pow.{pow_mono}
-use Rattle.sched.specs.Slots.Laws.{awake_of_lem}
+use Rattle.sched.proofs.Slots.Laws.{awake_of_lem}
 use Rattle.sched.specs.Bits.{bit}
 use Rattle.sched.specs.Bounded.{total}
 use Rattle.sched.specs.Slots.{awake, awake_of}
 use Rattle.record_map.specs.MapBytes.{bits, map_from}
-use Rattle.record_map.specs.MapBytes.Laws.{bits_small, ones_few}
+use Rattle.record_map.proofs.MapBytes.Laws.{bits_small, ones_few}
 
 -- one slot
 

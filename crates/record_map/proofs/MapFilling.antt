@@ -9,8 +9,8 @@ use native.Mathlib.Omega.{arith}
 use lib.ListN.{length, set}
 use Rattle.record_map.specs.MapBytes.{bits, map_from}
 use Rattle.record_map.specs.Stored.{stored}
-use Rattle.record_map.specs.MapBytes.Laws.{length_map_from}
-use Rattle.record_map.specs.Stored.Laws.{Filling, filling_start, filling_turn, filling_end}
+use Rattle.record_map.proofs.MapBytes.Laws.{length_map_from}
+use Rattle.record_map.proofs.Stored.Laws.{Filling, filling_start, filling_turn, filling_end}
 
 -- the map bytes from byte k on
 

@@ -1,7 +1,6 @@
 -- 01, "Plan record bytes": the bits of map bytes, "slot 0 in bit 0 of the first byte". The writer packs them (`bits` in `MapBytes`); here they
 -- are taken apart again.
 use Rattle.std.specs.Prelude.{ℕ, zero, suc, ◌%◌, ◌/◌, Bool, false, ◌||◌, List, [], ◌∷◌, ◌++◌, eqb}
-pub mod Laws
 
 -- the k lowest bits of a number, bit 0 first
 unfoldable pub low_bits : ℕ → ℕ → List Bool

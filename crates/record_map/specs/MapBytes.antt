@@ -2,7 +2,6 @@
 use Rattle.std.specs.Prelude.{ℕ, zero, suc, ◌+◌, ◌*◌, ◌/◌, Bool, List, [], ◌∷◌, length}
 use Rattle.sched.specs.Bits.{bit}
 use Rattle.sched.specs.Slots.{awake}
-pub mod Laws
 
 -- the k slots from slot t on as a number, "1 for awake", slot t in bit 0; beyond the last slot everything sleeps, so the rest is "padded with 0"
 unfoldable pub bits : ℕ → ℕ → List Bool → ℕ

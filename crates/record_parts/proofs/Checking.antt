@@ -10,7 +10,7 @@ use lib.Count.{ones, ones-le}
 use Rattle.sched.specs.Bounded.{total}
 use Rattle.sched.specs.TwoBytes.{AreBytes, word}
 use Rattle.sched.specs.Checks.{horizon_check, bytes_by}
-use Rattle.sched.specs.Checks.Laws.{then_passes, then_fails}
+use Rattle.sched.proofs.Checks.Laws.{then_passes, then_fails}
 use Rattle.sched.specs.declared.Refusal.{Refusal}
 use Rattle.sched.specs.declared.Refusal.TheVariants.{Truncated, LeftOver, PaddingBit, BadSlotByte}
 use Rattle.sched.specs.declared.Checked.{Checked}
@@ -19,7 +19,7 @@ use Rattle.record_map.specs.MapBytes.{map_length}
 use Rattle.record_map.specs.MapBits.{bits_of, some_bit}
 use Rattle.record_parts.specs.Layout.{behind_map}
 use Rattle.record_parts.specs.Bytes.{map_in, padding_in, slot_byte_count, slot_byte_check, slot_bytes_check, body_check, record_check}
-use Rattle.record_parts.specs.Bytes.Laws.{bad_first, length_map_in, map_in_bytes}
+use Rattle.record_parts.proofs.Bytes.Laws.{bad_first, length_map_in, map_in_bytes}
 
 module _ (at byte : ℕ) where
   pub is_job : byte < 64 → slot_byte_check at byte ≡ Passed

@@ -11,7 +11,7 @@ use Rattle.sched.specs.Bits.{bit}
 use Rattle.sched.specs.Slots.{awake}
 use Rattle.sched.specs.Energy.{awake_slots}
 use Rattle.record_parts.specs.Bytes.{spread}
-use Rattle.record_parts.specs.Bytes.Laws.{length_spread, spread_awake, spread_asleep, awake_up_to, awake_part}
+use Rattle.record_parts.proofs.Bytes.Laws.{length_spread, spread_awake, spread_asleep, awake_up_to, awake_part}
 
 -- the first t slots are filled, with the first `at` bytes
 pub record Spreading (S : List Bool) (bytes table₀ table : List ℕ) (at t : ℕ) : Type 0 where

@@ -12,7 +12,6 @@ use Rattle.sched.specs.declared.Checked.TheVariants.{Passed}
 use Rattle.record_map.specs.MapBytes.{map_length}
 use Rattle.record_map.specs.MapBits.{bits_of, some_bit}
 use Rattle.record_parts.specs.Layout.{behind_map}
-pub mod Laws
 
 -- the map bytes of a record for h slots
 abbrev pub map_in : ℕ → List ℕ → List ℕ

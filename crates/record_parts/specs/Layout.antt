@@ -4,7 +4,6 @@ use Rattle.sched.specs.Bounded.{keep}
 use Rattle.sched.specs.TwoBytes.{two_bytes}
 use Rattle.sched.specs.Slots.{awake_of, asleep}
 use Rattle.record_map.specs.MapBytes.{map_length, map_bytes_of}
-pub mod Laws
 
 -- where the slot bytes begin: "directly behind the map", which has two bytes before it
 abbrev pub behind_map : ℕ → ℕ

@@ -9,7 +9,7 @@ use lib.ListN.{length, get_or, set, drop, length-set, length-append, drop_of_len
 use lib.Seq.{sets, sets-eq, drop-cons}
 use Rattle.decimal.specs.Decimal.{digits, PutsDigits}
 use Rattle.sched.specs.Buffers.{PutAt}
-use Rattle.sched.specs.Buffers.Laws.{sets_append, put_length}
+use Rattle.sched.proofs.Buffers.Laws.{sets_append, put_length}
 use Rattle.report.specs.Report.{numbers, line}
 use Rattle.report.specs.Report.Laws.{numbers_few}
 

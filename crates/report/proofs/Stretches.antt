@@ -6,11 +6,11 @@ use mathlib.Core.List.{List, [], ◌++◌}
 use native.Mathlib.Omega.{arith}
 use lib.ListN.{length, length-append}
 use Rattle.sched.specs.Slots.{awake_of}
-use Rattle.sched.specs.Slots.Laws.{awake_of_length}
-use Rattle.sched.specs.Energy.Laws.{room, runs_at_most}
+use Rattle.sched.proofs.Slots.Laws.{awake_of_length}
+use Rattle.sched.proofs.Energy.Laws.{room, runs_at_most}
 use Rattle.sched.specs.Runs.{Run, StretchEnd}
-use Rattle.sched.specs.Runs.Laws.{runs_left, none_left, stretch_asleep, stretch_awake}
-use Rattle.sched.specs.Runs.Search.{RunFrom, run_from, run_moves}
+use Rattle.sched.proofs.Runs.Laws.{runs_left, none_left, stretch_asleep, stretch_awake}
+use Rattle.sched.proofs.Runs.Search.{RunFrom, run_from, run_moves}
 use Rattle.sched.specs.Buffers.{PutAt}
 use Rattle.report.specs.Report.{run_line, lines_of, run_lines}
 use Rattle.report.specs.Report.Laws.{run_line_few, lines_few}

@@ -1,7 +1,7 @@
 -- 01, "Plans worked by hand", after card 5 of 02: the text of the third plan, of the overload 2, 5, and of 11 at place 0. Closed cases, so that an
 -- edit of a definition is refused here.
 use Rattle.std.specs.Prelude.{◌≡◌, refl, ℕ, List, [], ◌∷◌}
-use Rattle.sched.specs.Cases.{third_table}
+use Rattle.sched.proofs.Cases.{third_table}
 use Rattle.sched.specs.Runs.{leading, run_list_from}
 use Rattle.sched.specs.declared.Outcome.TheVariants.{Planned, Overloaded, Refused}
 use Rattle.sched.specs.declared.Refusal.TheVariants.{Truncated}

@@ -3,10 +3,10 @@
 use Rattle.std.specs.Prelude.{ℕ, ◌+◌, ◌≤◌, ◌≡◌, false, List, ◌∷◌, ◌++◌, length, take, drop}
 use Rattle.std.proofs.Common.{ap, ◌∙◌, arith, length-append, length-take}
 use Rattle.sched.specs.Slots.{awake_of}
-use Rattle.sched.specs.Slots.Laws.{awake_of_length}
-use Rattle.sched.specs.Energy.Laws.{runs_few}
+use Rattle.sched.proofs.Slots.Laws.{awake_of_length}
+use Rattle.sched.proofs.Energy.Laws.{runs_few}
 use Rattle.sched.specs.Refusals.{number}
-use Rattle.sched.specs.Checks.Laws.{length_passes}
+use Rattle.sched.proofs.Checks.Laws.{length_passes}
 use Rattle.sched.specs.declared.Checked.TheVariants.{Passed}
 use Rattle.sched.specs.Answers.{outcome_values}
 use Rattle.sched.specs.declared.Outcome.{Outcome}

@@ -5,3 +5,15 @@ pub mod Copied
 pub mod Poured
 pub mod OnlyNumber
 pub mod Passes
+pub mod Bits
+pub mod Bounded
+pub mod Buffers
+pub mod Cases
+pub mod Checks
+pub mod Energy
+pub mod Feasible
+pub mod Refusals
+pub mod Runs
+pub mod Slots
+pub mod Theorems
+pub mod TwoBytes

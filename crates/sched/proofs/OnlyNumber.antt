@@ -4,8 +4,8 @@ use Rattle.std.specs.Prelude.{ℕ, zero, suc, ◌≡◌, refl, not, List, length
 use Rattle.std.proofs.Common.{◌∙◌}
 use Rattle.sched.specs.Checks.{refuse_if, and_then, horizon_check, count_check, job_check, check_from, jobs_check, list_check_by}
 use Rattle.sched.specs.Checks.{list_check, lists_check, checked_number, checked_values}
-use Rattle.sched.specs.Theorems.RefusesJob.{other_horizon, other_count}
-use Rattle.sched.specs.Theorems.OnlyNumber.{job_check_before, OnlyNumber, coarse, coarse_number, if_coarse, then_coarse, other_same, job_coarse}
+use Rattle.sched.proofs.Theorems.RefusesJob.{other_horizon, other_count}
+use Rattle.sched.proofs.Theorems.OnlyNumber.{job_check_before, OnlyNumber, coarse, coarse_number, if_coarse, then_coarse, other_same, job_coarse}
 use Rattle.sched.specs.declared.Checked.{Checked}
 use Rattle.sched.specs.declared.Refusal.TheVariants.{Unequal}
 

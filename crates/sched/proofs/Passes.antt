@@ -2,7 +2,7 @@
 use Rattle.std.specs.Prelude.{◌≡◌, ◌↔◌}
 use Rattle.sched.specs.Jobs.{Jobs}
 use Rattle.sched.specs.Checks.{Passes, check_of}
-use Rattle.sched.specs.Checks.Laws.{passed_passes, passes_passed}
+use Rattle.sched.proofs.Checks.Laws.{passed_passes, passes_passed}
 use Rattle.sched.specs.declared.Checked.TheVariants.{Passed}
 
 pub passes : (J : Jobs) → check_of J ≡ Passed ↔ Passes J

@@ -1,7 +1,6 @@
 -- Searches, tests and sums over the numbers below a bound, and over lists. No sentence of 01 by themselves.
 use Rattle.std.specs.Prelude.{ℕ, zero, suc, ◌+◌, max, Bool, true, false, ◌&&◌, ◌||◌, List, [], ◌∷◌, leb}
 use Rattle.std.proofs.Math.Option.{Option, none, some}
-pub mod Laws
 
 -- f holds of some number below n
 unfoldable pub any_below : ℕ → (ℕ → Bool) → Bool

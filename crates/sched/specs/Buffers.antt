@@ -1,7 +1,6 @@
 -- Bytes that a writer puts into a lent buffer: one part after the other, or one byte all along a stretch.
 use Rattle.std.specs.Prelude.{ℕ, ◌+◌, ◌-◌, ◌≡◌, List, ◌++◌, length, take, drop, replicate}
 use Rattle.std.proofs.lemmas.List.Edits.{sets}
-pub mod Laws
 
 -- bytes stored from an offset on, and the offset behind them
 pub record PutAt (out : List ℕ) (at : ℕ) (bytes : List ℕ) (end : ℕ) (after : List ℕ) : Type 0 where

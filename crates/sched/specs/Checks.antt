@@ -8,8 +8,6 @@ use Rattle.sched.specs.declared.Refusal.{Refusal}
 use Rattle.sched.specs.declared.Refusal.TheVariants.{OutOfRange, EmptySpan, TooShort, Unequal, BadByte, PastHorizon, NoVolume}
 use Rattle.sched.specs.declared.Checked.{Checked}
 use Rattle.sched.specs.declared.Checked.TheVariants.{Passed, Refused}
-pub mod Laws
-pub mod Bytes
 
 -- "each job has r < d, d ≤ H and p of at least 1"
 pub record GoodJob (h r d p : ℕ) : Type 0 where

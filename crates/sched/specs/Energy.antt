@@ -3,7 +3,6 @@ use Rattle.std.specs.Prelude.{ℕ, suc, ◌+◌, ◌*◌, Bool, true, false, Lis
 use Rattle.sched.specs.Jobs.{Jobs}
 use Rattle.sched.specs.Slots.{awake_of}
 use Rattle.sched.specs.declared.Figures.{Figures}
-pub mod Laws
 
 -- "the number of awake slots"
 unfoldable pub awake_slots : List Bool → ℕ

@@ -2,7 +2,6 @@
 use Rattle.std.specs.Prelude.{ℕ, ◌≤◌, ◌<◌, ◌≡◌, List, ◌⊎◌, length, get_or}
 use Rattle.sched.specs.Jobs.{Jobs, count, release, deadline, volume}
 use Rattle.sched.specs.Slots.{times, idle, asleep}
-pub mod Laws
 
 -- "It may run in slots r to d−1."
 pub record OwnSlot (J : Jobs) (j t : ℕ) : Type 0 where

@@ -11,5 +11,3 @@ pub mod Slots
 pub mod Energy
 pub mod Runs
 pub mod Feasible
-pub mod Theorems
-pub mod Cases

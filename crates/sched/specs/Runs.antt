@@ -4,8 +4,6 @@ use Rattle.std.specs.Prelude.{ℕ, suc, ◌+◌, ◌≤◌, ◌<◌, ◌≡◌, 
 use mathlib.Core.List.{List, [], ◌∷◌, Memᴰ}
 use Rattle.sched.specs.Slots.{awake, awake_before}
 use Rattle.sched.specs.Energy.{runs}
-pub mod Laws
-pub mod Search
 
 pub record Run : Type 0 where
   pub first : ℕ

@@ -1,6 +1,5 @@
 -- 01, "Words of the plan": sets of slots and slot tables. A set is a list with a Bool a slot, true for awake; a table has a byte a slot.
 use Rattle.std.specs.Prelude.{ℕ, zero, suc, Bool, true, false, not, ◌||◌, List, [], ◌∷◌, map, get_or, set, eqb, ltb}
-pub mod Laws
 
 -- slot t is awake; slots outside the set's list sleep
 abbrev pub awake : List Bool → ℕ → Bool

@@ -1,6 +1,5 @@
 -- 01, "Job list bytes" and "Plan record bytes": bytes, and a number in two bytes, low byte first.
 use Rattle.std.specs.Prelude.{ℕ, ◌+◌, ◌*◌, ◌/◌, ◌%◌, ◌<◌, List, [], ◌∷◌, get_or}
-pub mod Laws
 
 -- a list of bytes: each entry is below 256
 abbrev pub AreBytes : List ℕ → Type 0

@@ -6,12 +6,12 @@ use native.Mathlib.Omega.{arith}
 use borrow.Author.Tests.{leb-true, leb-false}
 use lib.ListN.{length, get_or, take}
 use lib.Dec.{leb}
-use Rattle.sched.specs.Bounded.Laws.{by_bool}
+use Rattle.sched.proofs.Bounded.Laws.{by_bool}
 use Rattle.sched.specs.Jobs.{Jobs}
 use Rattle.sched.specs.Refusals.{place}
-use Rattle.sched.specs.Refusals.Laws.{refusal_number}
+use Rattle.sched.proofs.Refusals.Laws.{refusal_number}
 use Rattle.sched.specs.Checks.{Passes}
-use Rattle.sched.specs.Checks.Laws.{passes_passed}
+use Rattle.sched.proofs.Checks.Laws.{passes_passed}
 use Rattle.steps.specs.Outcomes.{Plan, planned, plan}
 use Rattle.sched.specs.Answers.{outcome_number, outcome_values}
 use Rattle.steps.proofs.Outcomes.Laws.{early_short, plan_ended}

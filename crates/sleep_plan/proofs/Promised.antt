@@ -6,7 +6,7 @@ use mathlib.Core.List.{List, [], ◌∷◌}
 use native.Mathlib.Omega.{arith}
 use lib.ListN.{length, get_or, take, drop}
 use Rattle.sched.specs.Refusals.{number, place}
-use Rattle.sched.specs.Refusals.Laws.{refusal_number}
+use Rattle.sched.proofs.Refusals.Laws.{refusal_number}
 use Rattle.sched.specs.Jobs.{Jobs}
 use Rattle.sched.specs.Checks.{Passes}
 use Rattle.sched.specs.Answers.{outcome_values}
@@ -16,14 +16,14 @@ use Rattle.sched.specs.declared.Outcome.{Outcome}
 use Rattle.laws_rivals.specs.Rivals.{AgainstRivals, CheapestSleep, CountsWoken}
 use Rattle.planner.specs.Promises.{PlanPromise}
 use Rattle.joblist.specs.Reading.{list_of}
-use Rattle.sched.specs.Checks.Laws.{refused_not_passed}
+use Rattle.sched.proofs.Checks.Laws.{refused_not_passed}
 use Rattle.sleep_plan.specs.Block.{block_length, answered, number_in}
 use Rattle.sleep_plan.specs.Block.Laws.{one_number}
 use Rattle.sleep_plan.specs.Puts.{Puts, PutsOutcome}
 use Rattle.sleep_plan.specs.Entry.{Answer, bytes_check, Entry, in_block}
 use Rattle.sched.specs.TwoBytes.{AreBytes}
 use Rattle.joblist.specs.Bytes.{spelling}
-use Rattle.joblist.specs.Theorems.{spelling_read, spelling_list, read_list_passes, place_small}
+use Rattle.joblist.proofs.Theorems.{spelling_read, spelling_list, read_list_passes, place_small}
 use Rattle.sleep_plan.specs.Entry.Laws.{entry_short, entry_answers, answer_refused, answer_planned}
 use Rattle.sleep_plan.specs.Promises.{as_call, CallPromise}
 use Rattle.sleep_plan.proofs.Answers.{plan_fits, outcome_numbers, against, counts, reports_back}

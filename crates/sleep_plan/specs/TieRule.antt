@@ -8,7 +8,8 @@ use Rattle.sched.specs.Answers.{outcome_number, outcome_values}
 use Rattle.sched.specs.declared.Checked.{Checked}
 use Rattle.sched.specs.declared.Checked.TheVariants.{Passed, Refused as Faulty}
 use Rattle.sched.specs.declared.Outcome.{Outcome}
-use Rattle.laws_rivals.proofs.TieRule.{plan_before, ties_as_before}
+use Rattle.laws_rivals.specs.TieRule.{plan_before}
+use Rattle.laws_rivals.proofs.TieRule.WholePlan.{ties_as_before}
 use Rattle.joblist.specs.Reading.{list_of}
 use Rattle.sleep_plan.specs.Block.{block_length, answered}
 use Rattle.sleep_plan.specs.Entry.{Answer, answer_of, after_read, bytes_check, call_answer, Entry, in_block, entry}

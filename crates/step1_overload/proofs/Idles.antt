@@ -7,7 +7,7 @@ use mathlib.Core.Logic.{◌⊎◌, inl, inr}
 use native.Mathlib.Decide.{dec_lt, ℕ_discrete}
 use native.Mathlib.Omega.{arith}
 use lib.ListN.{get_or}
-use Rattle.sched.specs.Bounded.Laws.{sum_mono, true_not_false}
+use Rattle.sched.proofs.Bounded.Laws.{sum_mono, true_not_false}
 use Rattle.sched.specs.Jobs.{Jobs, count, release, volume}
 use Rattle.laws_edf.specs.Search.{state_of}
 use Rattle.laws_edf.proofs.Overload.Late.Laws.{ran_idle}

@@ -12,7 +12,7 @@ use lib.ListN.{get_or}
 use lib.Dec.{leb, ltb}
 use lib.Count.{count_trailing_zeros}
 use Rattle.sched.specs.Bounded.{least_from}
-use Rattle.sched.specs.Bounded.Laws.{true_not_false, and_true, any_intro, any_elim, least_some, least_none}
+use Rattle.sched.proofs.Bounded.Laws.{true_not_false, and_true, any_intro, any_elim, least_some, least_none}
 use Rattle.laws_edf.specs.Run.{State}
 use Rattle.laws_edf.specs.Orders.{job_at}
 use Rattle.queue.specs.Arrivals.{come, waits}

@@ -10,7 +10,7 @@ use lib.ListN.{length, get_or, drop, set, length-set, length-map, drop_of_length
 use lib.Seq.{drop-cons, get_or-set_same, get_or-set_other}
 use lib.Dec.{leb, ltb, eqb}
 use borrow.Author.Tests.{lt-ltb, le-ltb, le-leb, lt-leb, eq-eqb, ne_eqb}
-use Rattle.sched.specs.Bounded.Laws.{by_bool}
+use Rattle.sched.proofs.Bounded.Laws.{by_bool}
 use Rattle.sched.specs.Jobs.{Jobs}
 use Rattle.laws_skeleton.specs.Windows.{window_start}
 use Rattle.laws_skeleton.specs.Runs.{sleep_cost, through_cost, takes, run_end}

@@ -18,9 +18,9 @@ use Rattle.laws_edf.proofs.Theorems.{workable_at_most_total, some_slot_wakes}
 use Rattle.laws_extension.specs.Chain.{Kept}
 use Rattle.laws_extension.specs.Chain.Keeping.{run_bytes}
 use Rattle.laws_extension.proofs.Chain.Missing.{kept_set, kept_volume}
-use Rattle.sched.specs.Slots.Laws.{awake_of_length}
+use Rattle.sched.proofs.Slots.Laws.{awake_of_length}
 use Rattle.laws_skeleton.proofs.Theorems.{least_is_skeleton, least_length}
-use Rattle.laws_extension.proofs.Waking.Laws.{woken_count}
+use Rattle.laws_extension.proofs.Waking.Full.{woken_count}
 use Rattle.queue.specs.Runs.{Runnable, RunDone, Units}
 use Rattle.queue.specs.Ranks.{spans_of}
 use Rattle.queue.specs.Runs.Whole.{whole_table, whole_left}

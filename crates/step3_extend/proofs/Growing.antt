@@ -9,10 +9,10 @@ use lib.Dec.{eqb}
 use lib.ListN.{length, get_or, set, length-set}
 use lib.Seq.{set-set, set-get_or}
 use borrow.Author.Tests.{not-true, not-false, eqb-true}
-use Rattle.sched.specs.Bounded.Laws.{and_true}
+use Rattle.sched.proofs.Bounded.Laws.{and_true}
 use Rattle.sched.specs.Jobs.{Jobs, count, deadline}
 use Rattle.sched.specs.Slots.{awake, awake_of, touches, wake_slot}
-use Rattle.sched.specs.Slots.Laws.{awake_of_lem}
+use Rattle.sched.proofs.Slots.Laws.{awake_of_lem}
 use Rattle.steps.specs.Extension.{helps, wakeable}
 use Rattle.laws_edf.specs.Orders.{job_at}
 use Rattle.laws_extension.specs.Chain.{KeptByRank, tried}

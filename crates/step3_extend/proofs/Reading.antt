@@ -10,9 +10,9 @@ use native.Mathlib.Decide.{ℕ_discrete}
 use borrow.Author.Tests.{eq-eqb, ne_eqb}
 use lib.ListN.{length, get_or, set, get_or-eq_default}
 use lib.Seq.{get_or-set_same, get_or-set_other}
-use Rattle.sched.specs.Bounded.Laws.{by_bool}
+use Rattle.sched.proofs.Bounded.Laws.{by_bool}
 use Rattle.sched.specs.Slots.{awake, awake_of, touches}
-use Rattle.sched.specs.Slots.Laws.{awake_of_lem, awake_of_length}
+use Rattle.sched.proofs.Slots.Laws.{awake_of_lem, awake_of_length}
 use Rattle.step3_extend.specs.Turns.{Alone}
 use Rattle.laws_extension.specs.Waking.Cursor.{cursor_after}
 

@@ -11,7 +11,7 @@ use native.Mathlib.Decide.{dec_lt}
 use borrow.Author.Tests.{lt-ltb}
 use lib.ListN.{length, length-set}
 use Rattle.sched.specs.Bounded.{least_from}
-use Rattle.sched.specs.Bounded.Laws.{lt_suc, by_bool, true_not_false}
+use Rattle.sched.proofs.Bounded.Laws.{lt_suc, by_bool, true_not_false}
 use Rattle.sched.specs.Jobs.{Jobs, volume, total_volume}
 use Rattle.sched.specs.Slots.{awake, awake_of, wake_slot}
 use Rattle.steps.specs.Workable.{workable}
@@ -19,7 +19,7 @@ use Rattle.steps.specs.Extension.{wakeable, next_wake, woken_in, wake_all, exten
 use Rattle.laws_edf.specs.Run.{spans, bytes}
 use Rattle.laws_edf.proofs.Theorems.{unhelpful_stays, some_slot_wakes}
 use Rattle.laws_extension.specs.Waking.{Turn}
-use Rattle.laws_extension.proofs.Waking.Laws.{wakes_turn, wake_skeleton}
+use Rattle.laws_extension.proofs.Waking.Turns.{wakes_turn, wake_skeleton}
 use Rattle.laws_extension.specs.Waking.Cursor.{NoneBefore, StaysIdle, cursor_after, next_from}
 use Rattle.laws_extension.proofs.Waking.Cursor.Laws.{next_from_lem, none_before_after}
 use Rattle.step3_extend.specs.Turns.{Alone, Extending, Extended}

@@ -6,7 +6,7 @@ use mathlib.Core.List.{List, [], ◌∷◌}
 use mathlib.Core.Option.{Option, none}
 use native.Mathlib.Omega.{arith}
 use lib.ListN.{length, get_or}
-use Rattle.sched.specs.Bounded.Laws.{by_bool}
+use Rattle.sched.proofs.Bounded.Laws.{by_bool}
 use Rattle.sched.specs.Slots.{awake}
 use Rattle.steps.specs.Table.{run_byte, serve, latest_of, fill_by}
 use Rattle.laws_edf.specs.Run.{Spans, servable, slot_byte}

@@ -10,7 +10,7 @@ use borrow.Author.Tests.{eq-eqb, ne_eqb, lt-ltb, le-ltb, eqb-true, eqb-false, lt
 use lib.ListN.{length, get_or}
 use lib.Dec.{eqb, ltb}
 use Rattle.sched.specs.Bits.{bit}
-use Rattle.sched.specs.Bounded.Laws.{by_bool}
+use Rattle.sched.proofs.Bounded.Laws.{by_bool}
 use Rattle.steps.specs.Table.{earliest}
 use Rattle.laws_edf.specs.Run.{Spans, servable, pick, chosen}
 use Rattle.laws_edf.specs.Pick.{eligible, servable_if, chosen_is}

@@ -11,7 +11,7 @@ use lib.ListN.{length, get_or, set, take, drop, length-set, drop_of_length-le}
 use lib.Seq.{set-get_or, get_or-set_other, take-suc-set, take_all, append_snoc, drop-cons}
 use Rattle.sched.specs.Jobs.{Jobs}
 use Rattle.sched.specs.Slots.{asleep, idle, wakeful, awake_of}
-use Rattle.sched.specs.Slots.Laws.{awake_of_length}
+use Rattle.sched.proofs.Slots.Laws.{awake_of_length}
 use Rattle.steps.specs.Table.{going_on, run_byte, serve, latest_of, fill_by}
 use Rattle.laws_edf.specs.Run.{Spans, State, spans, servable, after, slot_byte}
 use Rattle.laws_edf.specs.Search.{state_of, state_lowered}

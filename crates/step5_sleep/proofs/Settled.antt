@@ -11,7 +11,7 @@ use borrow.Author.Tests.{lt-ltb, le-ltb}
 use lib.ListN.{length, get_or, take, drop, replicate, length-append, length-drop, length-replicate}
 use lib.Dec.{ltb}
 use lib.Seq.{length-take-le, drop-cons, drop-drop, drop-length, get_or-drop, take-append-add, drop-append-add, append_snoc}
-use Rattle.sched.specs.Bounded.Laws.{lt_suc}
+use Rattle.sched.proofs.Bounded.Laws.{lt_suc}
 use Rattle.sched.specs.Buffers.{poured}
 use Rattle.sched.specs.Slots.{mark_byte, asleep, works}
 use Rattle.steps.specs.Sleep.{stays_awake, sleep_rule}

@@ -6,7 +6,7 @@ use mathlib.Core.List.{List}
 use lib.ListN.{length}
 use Rattle.sched.specs.Jobs.{Jobs, jobs_from}
 use Rattle.sched.specs.Checks.{list_check}
-use Rattle.sched.specs.Checks.Laws.{passed_passes}
+use Rattle.sched.proofs.Checks.Laws.{passed_passes}
 use Rattle.sched.specs.declared.Refusal.{Refusal}
 use Rattle.sched.specs.declared.Checked.TheVariants.{Passed, Refused as Faulty}
 use Rattle.orders.specs.Lists.{ListsOf}
@@ -15,7 +15,7 @@ use Rattle.tightest.specs.declared.Tightness.{Tightness}
 use Rattle.tightest.specs.declared.Tightness.TheVariants.{Found, Refused}
 use Rattle.tightest.specs.Slack.{IsTightest}
 use Rattle.tightest.specs.Answer.{no_jobs_check, TightnessPromise}
-use Rattle.tightest.specs.Answer.Laws.{some_good, list_refused, jobs_refused, tightest_reported}
+use Rattle.tightest.proofs.Answer.Laws.{some_good, list_refused, jobs_refused, tightest_reported}
 use Rattle.tightest.specs.Search.{Listed}
 
 module _ (h : ℕ) (releases deadlines volumes : List ℕ) where

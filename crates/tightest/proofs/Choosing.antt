@@ -9,7 +9,7 @@ use borrow.Author.Tests.{lt-ltb, le-ltb, ltb-true, ltb-false}
 use lib.Dec.{ltb}
 use lib.IntN.{ℤ}
 use lib.Signed.{lt_z, ◌≤ℤ◌, ≤ℤ_refl, clash_ℤ}
-use Rattle.sched.specs.Bounded.Laws.{by_bool}
+use Rattle.sched.proofs.Bounded.Laws.{by_bool}
 use Rattle.sched.specs.Jobs.{Jobs, count, deadline}
 use Rattle.tightest.specs.declared.Tight.{Tight}
 use Rattle.tightest.specs.Signed.{less_is, less_not, less_at_most, at_most_both}

@@ -5,3 +5,6 @@ pub mod Walking
 pub mod Choosing
 pub mod EndByEnd
 pub mod Answering
+pub mod Answer
+pub mod Cases
+pub mod Theorems

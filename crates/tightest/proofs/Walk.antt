@@ -9,7 +9,7 @@ use native.Mathlib.Decide.{dec_lt, dec_le, ℕ_discrete}
 use lib.IntN.{ℤ, pos, ◌-ℤ◌}
 use lib.Signed.{◌≤ℤ◌, ≤ℤ_refl, clash_ℤ}
 use Rattle.sched.specs.Bounded.{sum_below}
-use Rattle.sched.specs.Bounded.Laws.{sum_zero}
+use Rattle.sched.proofs.Bounded.Laws.{sum_zero}
 use Rattle.sched.specs.Jobs.{Jobs, count, release, deadline, volume}
 use Rattle.sched.specs.Checks.{Passes}
 use Rattle.steps.specs.Overload.{volume_if, volume_inside}

@@ -10,7 +10,6 @@ use Rattle.tightest.specs.declared.Tight.{Tight}
 use Rattle.tightest.specs.declared.Tightness.{Tightness}
 use Rattle.tightest.specs.declared.Tightness.TheVariants.{Found, Refused}
 use Rattle.tightest.specs.Slack.{tightest_of, IsTightest}
-pub mod Laws
 
 -- "34, place 0, the list has no jobs."
 abbrev pub no_jobs_check : ℕ → Checked

@@ -3,5 +3,3 @@ pub mod Signed
 pub mod Slack
 pub mod Answer
 pub mod Search
-pub mod Theorems
-pub mod Cases

@@ -4,7 +4,7 @@ use Rattle.std.proofs.Common.{sym, ap, subst, ◌∙◌, arith, lt-ltb, le-ltb, 
 use Rattle.std.proofs.Math.Decide.{dec_lt}
 use Rattle.std.proofs.Math.IntN.{sub_ℕ, +ℤ_assoc, neg_ℤ-+ℤ}
 use Rattle.std.specs.Int.Signed.{mag, lt_z, le_z, lt_z_no, <ℤ-≤ℤ_trans, clash_ℤ}
-use Rattle.sched.specs.Bounded.Laws.{by_bool}
+use Rattle.sched.proofs.Bounded.Laws.{by_bool}
 
 -- The order
 

@@ -7,7 +7,7 @@ use Rattle.sched.specs.Bounded.{total, any_below, all_below, sum_below, max_belo
 use Rattle.sched.specs.Checks.{check_from}
 use Rattle.sched.specs.Slots.{times}
 use Rattle.sched.specs.Energy.{awake_slots, runs_from}
-use Rattle.sched.specs.Cases.{job, jobs, start_awake}
+use Rattle.sched.proofs.Cases.{job, jobs, start_awake}
 use Rattle.steps.specs.Overload.{volume_if, volume_inside, overloaded, overload_ending_at, shown_overload}
 use Rattle.steps.specs.Skeleton.{is_skeleton, all_sets, skeletons, least_of, least_skeleton}
 use Rattle.steps.specs.Workable.{most_from, workable}

@@ -1,7 +1,7 @@
 -- `judge::check_slot` meets its contract: the tests are those of `slot_fault`, in its order.
 use native.Mathlib.Omega.{arith}
 use borrow.Author.Tests.{le-leb, lt-leb}
-use Rattle.judge.specs.Faults.Laws.{idle_passes, asleep_passes, unknown_refused, early_refused, late_refused, spent_refused, own_passes}
+use Rattle.judge.proofs.Faults.Laws.{idle_passes, asleep_passes, unknown_refused, early_refused, late_refused, spent_refused, own_passes}
 use Rattle.judge.proofs.check_slot.Goals as goal
 
 pub returns-then-byte-eq-IDLE : goal.returns-then-byte-eq-IDLE

@@ -1,6 +1,6 @@
 -- `judge_slots` meets its contract: the table's faults decide, and where it has none its figures are told.
 use mathlib.Core.Path.{sym, ◌∙◌}
-use Rattle.judge.specs.Verdict.Laws.{faulty_slots, faultless_slots}
+use Rattle.judge.proofs.Verdict.Laws.{faulty_slots, faultless_slots}
 use Rattle.judge.proofs.judge_slots.Goals as goal
 
 pub returns-in-Passed : goal.returns-in-Passed

@@ -7,7 +7,7 @@ use Rattle.std.proofs.Math.Bool.{Bool, true, false, and-false, and-true as and_t
 use Rattle.std.proofs.Math.Decide.{ℕ_discrete, dec_lt}
 use Rattle.std.proofs.Math.Dec.{leb}
 use Rattle.sched.specs.Bounded.{sum_below}
-use Rattle.sched.specs.Bounded.Laws.{and_true, sum_ext, sum_add, sum_zero}
+use Rattle.sched.proofs.Bounded.Laws.{and_true, sum_ext, sum_add, sum_zero}
 use Rattle.sched.specs.Jobs.{Jobs, count, release, deadline}
 use Rattle.sched.specs.Slots.{times}
 use Rattle.sched.specs.Feasible.{Feasible}

@@ -9,7 +9,7 @@ use Rattle.std.proofs.Math.Decide.{dec_le, dec_lt}
 use borrow.Author.Tests.{le-leb, lt-leb, eqb-true, eqb-false}
 use Rattle.std.proofs.Math.Dec.{leb}
 use Rattle.sched.specs.Bounded.{any_below}
-use Rattle.sched.specs.Bounded.Laws.{by_bool, true_not_false, any_elim, any_none, sum_ext, sum_zero}
+use Rattle.sched.proofs.Bounded.Laws.{by_bool, true_not_false, any_elim, any_none, sum_ext, sum_zero}
 use Rattle.sched.specs.Jobs.{Jobs, count, release, deadline, volume}
 use Rattle.sched.specs.Checks.{Passes}
 use Rattle.steps.specs.Overload.{volume_if, volume_inside}

@@ -7,7 +7,7 @@ use Rattle.std.proofs.Math.Decide.{dec_lt}
 use borrow.Author.Tests.{ltb-true, leb-true, lt-ltb, le-leb}
 use Rattle.std.proofs.Math.Dec.{leb}
 use Rattle.sched.specs.Bounded.{any_below, least_from, last_below}
-use Rattle.sched.specs.Bounded.Laws.{by_bool, true_not_false, and_true, any_intro, any_elim, LeastIn, least_some, least_none, Last, last_some, last_none}
+use Rattle.sched.proofs.Bounded.Laws.{by_bool, true_not_false, and_true, any_intro, any_elim, LeastIn, least_some, least_none, Last, last_some, last_none}
 use Rattle.sched.specs.Jobs.{Jobs}
 use Rattle.steps.specs.Overload.{overloaded, volume_inside, overload_ending_at, shown_overload}
 use Rattle.sched.specs.declared.Interval.{Interval}

@@ -5,7 +5,7 @@ use Rattle.std.proofs.Math.Path.{◌≡◌}
 use Rattle.std.proofs.Common.{ap, sym, ◌∙◌, inl, inr, arith}
 use Rattle.std.proofs.Math.Option.{some}
 use Rattle.std.proofs.Math.Decide.{ℕ_discrete, dec_lt}
-use Rattle.sched.specs.Bounded.Laws.{lt_suc, true_not_false}
+use Rattle.sched.proofs.Bounded.Laws.{lt_suc, true_not_false}
 use Rattle.sched.specs.Jobs.{Jobs, count, release, deadline, volume}
 use Rattle.laws_edf.specs.Run.{State, Eligible, spans, chosen, left}
 use Rattle.laws_edf.specs.Pick.{First, Chosen}

@@ -3,7 +3,7 @@ use Rattle.std.specs.Prelude.{ℕ, suc, ◌≤◌, ◌<◌, ◌≡◌, refl, Boo
 use Rattle.std.proofs.Common.{ap, sym, ◌∙◌, inl, inr, arith}
 use Rattle.std.proofs.Math.Option.{Option, none, some}
 use Rattle.std.proofs.Math.Decide.{ℕ_discrete, le_ind}
-use Rattle.sched.specs.Bounded.Laws.{lt_suc}
+use Rattle.sched.proofs.Bounded.Laws.{lt_suc}
 use Rattle.laws_edf.specs.Run.{Spans, State, Eligible, chosen, lowered, after, slot_byte, left}
 use Rattle.laws_edf.specs.Pick.{first_unique, View, view}
 use Rattle.laws_edf.specs.Units.{OneMore, lowered_there, lowered_elsewhere, both_lowered, less_everywhere}

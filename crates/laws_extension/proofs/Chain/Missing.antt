@@ -3,11 +3,11 @@ use Rattle.std.specs.Prelude.{ℕ, ◌+◌, ◌≤◌, ◌≡◌, refl, Bool, tr
 use Rattle.std.proofs.Common.{ap, sym, ◌∙◌, arith, ne_eqb, ext_get_or}
 use Rattle.std.proofs.Math.Option.{Option, none, some}
 use Rattle.sched.specs.Bounded.{sum_below}
-use Rattle.sched.specs.Bounded.Laws.{sum_ext}
+use Rattle.sched.proofs.Bounded.Laws.{sum_ext}
 use Rattle.sched.specs.Jobs.{Jobs, count, total_volume}
 use Rattle.sched.specs.Checks.{Passes}
 use Rattle.sched.specs.Slots.{awake, awake_of, asleep}
-use Rattle.sched.specs.Slots.Laws.{awake_of_length, awake_of_lem}
+use Rattle.sched.proofs.Slots.Laws.{awake_of_length, awake_of_lem}
 use Rattle.steps.specs.Workable.{workable}
 use Rattle.laws_edf.specs.Run.{Spans, State, spans, slot_byte}
 use Rattle.laws_edf.specs.Pick.{View, view}

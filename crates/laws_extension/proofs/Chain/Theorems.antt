@@ -6,7 +6,7 @@ use Rattle.std.proofs.Math.Path.{sym}
 use Rattle.std.proofs.lemmas.Bool.{false≢true}
 use Rattle.std.proofs.Math.Decide.{dec_lt}
 use Rattle.std.proofs.lemmas.List.{set-get_or}
-use Rattle.sched.specs.Bounded.Laws.{by_bool}
+use Rattle.sched.proofs.Bounded.Laws.{by_bool}
 use Rattle.sched.specs.Jobs.{Jobs, count, volume}
 use Rattle.sched.specs.Checks.{Passes}
 use Rattle.sched.specs.Slots.{awake, wake_slot, asleep}

@@ -3,7 +3,7 @@ use Rattle.std.specs.Prelude.{ℕ, suc, ◌-◌, ◌≤◌, ◌<◌, ◌≡◌, 
 use Rattle.std.proofs.Math.Bool.{and-false}
 use Rattle.std.proofs.Common.{arith}
 use borrow.Author.Tests.{leb-true, ltb-true, le-leb, lt-leb, lt-ltb, le-ltb}
-use Rattle.sched.specs.Bounded.Laws.{and_true}
+use Rattle.sched.proofs.Bounded.Laws.{and_true}
 use Rattle.laws_edf.specs.Orders.{job_at}
 use Rattle.laws_extension.specs.Chain.{reaches, gained_at, handed_on, tried}
 

@@ -5,7 +5,7 @@ use Rattle.std.proofs.Math.Path.{refl, sym}
 use Rattle.std.proofs.Common.{ap, ◌∙◌, inl, inr, arith, eq-eqb, ne_eqb, get_or-set_same, get_or-set_other}
 use Rattle.std.proofs.Math.Decide.{ℕ_discrete}
 use Rattle.std.proofs.lemmas.List.{set-get_or}
-use Rattle.sched.specs.Bounded.Laws.{lt_suc}
+use Rattle.sched.proofs.Bounded.Laws.{lt_suc}
 use Rattle.laws_extension.specs.Chain.{end_below}
 
 -- One turn of the search downwards

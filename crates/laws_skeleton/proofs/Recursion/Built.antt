@@ -2,7 +2,7 @@
 use Rattle.std.specs.Prelude.{ℕ, zero, suc, ◌+◌, ◌≤◌, ◌<◌, ◌≡◌, Bool, true, false, List, [], ◌∷◌, ◌⊎◌, length}
 use Rattle.std.proofs.Common.{sym, ap, ◌∙◌, inl, inr, arith}
 use Rattle.std.proofs.Math.Decide.{dec_lt}
-use Rattle.sched.specs.Bounded.Laws.{by_bool, true_not_false}
+use Rattle.sched.proofs.Bounded.Laws.{by_bool, true_not_false}
 use Rattle.laws_skeleton.specs.Recursion.{cost, Allowed, least, built}
 use Rattle.laws_skeleton.proofs.Recursion.Clauses.{cost_end, cost_sleep, price, cost_awake, least_end, least_due, least_sleeps, least_awake, built_end, built_due, built_sleeps, built_goes_on, built_ends}
 use Rattle.laws_skeleton.proofs.Recursion.Exchange.{allowed_costs}

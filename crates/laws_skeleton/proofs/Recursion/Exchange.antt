@@ -1,7 +1,7 @@
 -- It is never worse to wake later, and no allowed set is cheaper than the recursion's value.
 use Rattle.std.specs.Prelude.{ℕ, zero, suc, ◌+◌, ◌≤◌, ◌≡◌, Bool, true, false, List, [], ◌∷◌, length}
 use Rattle.std.proofs.Common.{arith}
-use Rattle.sched.specs.Bounded.Laws.{by_bool, true_not_false}
+use Rattle.sched.proofs.Bounded.Laws.{by_bool, true_not_false}
 use Rattle.laws_skeleton.specs.Recursion.{cost, Allowed, least}
 use Rattle.laws_skeleton.proofs.Recursion.Clauses.{cost_sleep, cost_awake, least_end, least_due, least_sleeps, least_awake, least_true_le}
 

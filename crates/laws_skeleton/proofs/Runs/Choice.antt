@@ -8,7 +8,7 @@ use mathlib.Core.List.Memᴰ.{tail as there}
 use mathlib.Core.List.{List, [], ◌∷◌, Memᴰ as Among}
 use Rattle.std.proofs.Math.Decide.{ℕ_discrete, dec_lt, dec_le}
 use Rattle.sched.specs.Jobs.{Jobs}
-use Rattle.sched.specs.Bounded.Laws.{by_bool, true_not_false, and_true, or_true, or_false}
+use Rattle.sched.proofs.Bounded.Laws.{by_bool, true_not_false, and_true, or_true, or_false}
 use Rattle.laws_skeleton.specs.Windows.{window_start}
 use Rattle.laws_skeleton.specs.Runs.{sleep_cost, through_cost, beats, run_end, takes}
 use Rattle.laws_skeleton.proofs.Runs.Clauses.{sleep_wakes, sleep_skips, run_end_none, run_end_takes, run_end_keeps}

@@ -3,7 +3,7 @@ use Rattle.std.specs.Prelude.{ℕ, zero, suc, ◌+◌, ◌-◌, ◌≤◌, ◌<�
 use Rattle.std.proofs.Common.{sym, ap, ◌∙◌, arith}
 use Rattle.std.proofs.Math.Nat.{sub_self}
 use Rattle.std.proofs.Math.Decide.{dec_le}
-use Rattle.sched.specs.Bounded.Laws.{by_bool}
+use Rattle.sched.proofs.Bounded.Laws.{by_bool}
 use Rattle.laws_skeleton.specs.Recursion.{least, built}
 use Rattle.laws_skeleton.proofs.Recursion.Clauses.{least_end, least_due, least_sleeps, least_awake, least_true_le, built_end, built_due, built_sleeps, built_goes_on, built_ends}
 

@@ -9,7 +9,7 @@ use mathlib.Core.List.{List, [], ◌∷◌, Memᴰ as Among}
 use Rattle.std.proofs.Math.Decide.{dec_le}
 use Rattle.sched.specs.Jobs.{Jobs, count}
 use Rattle.sched.specs.Checks.{Passes}
-use Rattle.sched.specs.Bounded.Laws.{by_bool}
+use Rattle.sched.proofs.Bounded.Laws.{by_bool}
 use Rattle.laws_skeleton.specs.Windows.{window_start, window_end, due}
 use Rattle.laws_skeleton.proofs.Windows.Laws.{Due, due_job, job_due, window_opens, window_within}
 use Rattle.laws_skeleton.proofs.Order.Laws.{Rest, rest_next}

@@ -3,7 +3,7 @@ use Rattle.std.specs.Prelude.{ℕ, zero, suc, ◌+◌, ◌≤◌, ◌<◌, ◌�
 use Rattle.std.proofs.Math.Decide.{dec_le}
 use Rattle.std.proofs.Common.{arith, le-leb, leb-true, eq-eqb, eqb-true}
 use Rattle.sched.specs.Bounded.{any_below}
-use Rattle.sched.specs.Bounded.Laws.{by_bool, true_not_false, and_true, any_intro, any_elim, all_intro, all_elim}
+use Rattle.sched.proofs.Bounded.Laws.{by_bool, true_not_false, and_true, any_intro, any_elim, all_intro, all_elim}
 use Rattle.sched.specs.Jobs.{Jobs, count, release, deadline}
 use Rattle.sched.specs.Checks.{Passes}
 use Rattle.sched.specs.Slots.{awake}

@@ -5,7 +5,7 @@ use Rattle.std.proofs.Math.Path.{refl, ap}
 use Rattle.std.proofs.Common.{sym, ◌∙◌, arith}
 use mathlib.Core.List.{List, [], ◌∷◌, map, reverse, reverse_aux}
 use Rattle.sched.specs.Bounded.{sum_below, total}
-use Rattle.sched.specs.Bounded.Laws.{sum_first}
+use Rattle.sched.proofs.Bounded.Laws.{sum_first}
 use Rattle.laws_edf.specs.Overload.Order.{AtMost, Falling, InOrder}
 use Rattle.laws_edf.specs.Orders.{Before, job_at}
 use Rattle.orders.specs.Rising.{rising_by}

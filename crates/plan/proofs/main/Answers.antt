@@ -1,6 +1,6 @@
 -- `main` prints what the definition says of what it read; the parts of the lists that it lends lie in them.
 use Rattle.std.proofs.Common.{sym, arith, length-take-le}
-use Rattle.joblist.specs.Theorems.Handed.{read_list, refused_list}
+use Rattle.joblist.proofs.Theorems.Handed.{read_list, refused_list}
 use Rattle.plan.proofs.Printing.{prints_refused, prints_plan}
 use Rattle.plan.proofs.main.Goals as goal
 

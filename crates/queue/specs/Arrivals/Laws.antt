@@ -5,7 +5,7 @@ use Rattle.std.proofs.Common.{sym, ap, arith, lt-ltb, eq-eqb, ne_eqb}
 use Rattle.std.proofs.Math.Bool.{true, false}
 use Rattle.std.proofs.Math.Decide.{dec_lt}
 use Rattle.sched.specs.Bounded.{any_below}
-use Rattle.sched.specs.Bounded.Laws.{any_intro, any_refute}
+use Rattle.sched.proofs.Bounded.Laws.{any_intro, any_refute}
 use Rattle.queue.specs.Arrivals.{come, or_beyond}
 
 pub beyond_in : (n : ℕ) (f : ℕ → ℕ) (i : ℕ) → i < n → or_beyond n f i ≡ f i

@@ -13,7 +13,7 @@ use Rattle.std.proofs.Math.Pow.{pow-lt}
 use Rattle.std.specs.Int.Count.{count_trailing_zeros, under}
 use Rattle.sched.specs.Bounded.{least_from}
 use Rattle.sched.specs.Bits.{bit}
-use Rattle.sched.specs.Bits.Laws.{bit_small}
+use Rattle.sched.proofs.Bits.Laws.{bit_small}
 use Rattle.queue.specs.Mask.{mask_from, mask}
 
 -- a shifted one is the power of two

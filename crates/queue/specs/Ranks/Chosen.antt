@@ -4,7 +4,7 @@ use Rattle.std.proofs.Common.{sym, ap, subst, ◌∙◌, arith}
 use Rattle.std.proofs.Math.Option.{none, some}
 use Rattle.std.proofs.Math.Decide.{dec_lt, ℕ_discrete}
 use Rattle.sched.specs.Bounded.{least_from}
-use Rattle.sched.specs.Bounded.Laws.{least_some, least_none, true_not_false}
+use Rattle.sched.proofs.Bounded.Laws.{least_some, least_none, true_not_false}
 use Rattle.laws_edf.specs.Run.{Spans, State, Eligible, servable, chosen}
 use Rattle.laws_edf.specs.Pick.{First, Chosen, eligible, servable_if}
 use Rattle.laws_edf.specs.Orders.{Sorted, job_at}

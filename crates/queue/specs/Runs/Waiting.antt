@@ -6,7 +6,7 @@ use Rattle.std.proofs.Math.Option.{Option}
 use Rattle.std.proofs.Math.Decide.{dec_lt}
 use Rattle.std.proofs.lemmas.Bool.{lt-leb, eqb-false}
 use Rattle.sched.specs.Bounded.{any_below}
-use Rattle.sched.specs.Bounded.Laws.{any_elim, any_none}
+use Rattle.sched.proofs.Bounded.Laws.{any_elim, any_none}
 use Rattle.laws_edf.specs.Run.{State}
 use Rattle.laws_edf.specs.Search.{state_of}
 use Rattle.laws_edf.specs.Orders.{Sorted, job_at}

@@ -5,7 +5,7 @@ use native.Mathlib.Omega.{arith}
 use lib.ListN.{length}
 use lib.Seq.{length-take-le}
 use Rattle.sched.specs.Checks.{length_check}
-use Rattle.sched.specs.Checks.Laws.{length_good}
+use Rattle.sched.proofs.Checks.Laws.{length_good}
 use Rattle.sched.specs.declared.Checked.TheVariants.{Passed}
 use Rattle.record.proofs.Opened.{header_within, behind_within}
 use Rattle.record.proofs.ReadAnswers.{table_short, fits, table_filled}

@@ -1,6 +1,6 @@
 -- `run_bytes` meets its contract: the part that `find_run` tells of, or none.
 use Rattle.std.proofs.Common.{refl, sym, ◌∙◌, arith}
-use Rattle.record.specs.OneRun.Laws.{part_within, part_small}
+use Rattle.record.proofs.OneRun.Laws.{part_within, part_small}
 use Rattle.record.proofs.FindAnswers.{part_told, no_part, part_placed, none_placed}
 use Rattle.record.proofs.run_bytes.Goals as goal
 

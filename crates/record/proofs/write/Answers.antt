@@ -3,7 +3,7 @@ use mathlib.Core.Path.{sym, ◌∙◌}
 use native.Mathlib.Omega.{arith}
 use lib.ListN.{length-take}
 use lib.Seq.{length-take-le}
-use Rattle.sched.specs.Checks.Laws.{slots_good}
+use Rattle.sched.proofs.Checks.Laws.{slots_good}
 use Rattle.record.proofs.Answers.{table_refused, table_passed}
 use Rattle.record.proofs.write.Goals as goal
 

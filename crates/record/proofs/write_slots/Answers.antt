@@ -5,11 +5,11 @@ use mathlib.Core.Bool.{not}
 use native.Mathlib.Omega.{arith}
 use lib.ListN.{length, length-map}
 use lib.Dec.{eqb}
-use Rattle.sched.specs.Checks.Laws.{length_good}
+use Rattle.sched.proofs.Checks.Laws.{length_good}
 use Rattle.sched.specs.Slots.{awake_of}
 use Rattle.record_map.specs.MapBytes.{map_length}
-use Rattle.record_map.specs.MapBytes.Laws.{ones_of_slots, map_ones_few}
-use Rattle.record_parts.specs.Layout.Laws.{record_size}
+use Rattle.record_map.proofs.MapBytes.Laws.{ones_of_slots, map_ones_few}
+use Rattle.record_parts.proofs.Layout.Laws.{record_size}
 use Rattle.record.proofs.Answers.{no_room, room}
 use Rattle.record.proofs.write_slots.Goals as goal
 

@@ -3,7 +3,7 @@ use Prim.Native.Nat.{◌+◌}
 use mathlib.Core.Path.{sym, ◌∙◌}
 use native.Mathlib.Omega.{arith}
 use lib.ListN.{length}
-use Rattle.sched.specs.Checks.Laws.{length_good}
+use Rattle.sched.proofs.Checks.Laws.{length_good}
 use Rattle.report.specs.Report.{line, run_lines}
 use Rattle.report.specs.Report.Laws.{line_length, numbers_few}
 use Rattle.report.proofs.Stretches.{lines_most}

@@ -2,8 +2,8 @@
 use mathlib.Core.Path.{refl}
 use Rattle.std.proofs.Common.{rules}
 use Rattle.sched.specs.Checks.{byte_check}
-use Rattle.sched.specs.Checks.Bytes.{byte_passed, byte_refused, bytes_passed}
-use Rattle.sched.specs.Checks.Laws.{check_same}
+use Rattle.sched.proofs.Checks.Bytes.{byte_passed, byte_refused, bytes_passed}
+use Rattle.sched.proofs.Checks.Laws.{check_same}
 use Rattle.sched.proofs.Bytes.{is_job, is_mark, is_nothing}
 use Rattle.sched.proofs.check_bytes.Goals as goal
 

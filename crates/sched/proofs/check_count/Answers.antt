@@ -1,6 +1,6 @@
 -- `check_count` meets its contract: its test is that of `count_check`.
 use borrow.Author.Tests.{lt-ltb, le-ltb}
-use Rattle.sched.specs.Checks.Laws.{check_same}
+use Rattle.sched.proofs.Checks.Laws.{check_same}
 use Rattle.sched.proofs.check_count.Goals as goal
 
 pub returns-then-n-gt64 : goal.returns-then-n-gt64

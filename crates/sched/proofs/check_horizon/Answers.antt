@@ -1,6 +1,6 @@
 -- `check_horizon` meets its contract: its two tests are those of `horizon_check`.
 use borrow.Author.Tests.{lt-ltb, le-ltb, eq-eqb, ne_eqb}
-use Rattle.sched.specs.Checks.Laws.{check_same}
+use Rattle.sched.proofs.Checks.Laws.{check_same}
 use Rattle.sched.proofs.check_horizon.Goals as goal
 
 pub returns-then-h-eq0 : goal.returns-then-h-eq0

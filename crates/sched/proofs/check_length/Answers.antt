@@ -1,6 +1,6 @@
 -- `check_length` meets its contract: its test is that of `length_check`.
 use borrow.Author.Tests.{lt-ltb, le-ltb}
-use Rattle.sched.specs.Checks.Laws.{check_same}
+use Rattle.sched.proofs.Checks.Laws.{check_same}
 use Rattle.sched.proofs.check_length.Goals as goal
 
 pub returns-then-have-need : goal.returns-then-have-need

@@ -1,7 +1,7 @@
 -- `check_lists` meets its contract: the tests are those of `lists_check`, in its order; `check_count` and `check_jobs` answer for the rest.
 use mathlib.Core.Path.{sym, ◌∙◌}
 use borrow.Author.Tests.{eq-eqb, ne_eqb}
-use Rattle.sched.specs.Checks.Laws.{lists_equal, then_fails, then_passes}
+use Rattle.sched.proofs.Checks.Laws.{lists_equal, then_fails, then_passes}
 use Rattle.sched.proofs.check_lists.Goals as goal
 
 pub returns-then-deadlines-releases : goal.returns-then-deadlines-releases

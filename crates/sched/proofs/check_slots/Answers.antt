@@ -1,7 +1,7 @@
 -- `check_slots` meets its contract: 12 and 17 decide, and where they pass the bytes do.
 use mathlib.Core.Path.{sym, ◌∙◌}
 use native.Mathlib.Omega.{arith}
-use Rattle.sched.specs.Checks.Laws.{check_same, then_fails, then_passes, table_good}
+use Rattle.sched.proofs.Checks.Laws.{check_same, then_fails, then_passes, table_good}
 use Rattle.sched.proofs.Bytes.{bytes_whole}
 use Rattle.sched.proofs.check_slots.Goals as goal
 

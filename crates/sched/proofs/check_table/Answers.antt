@@ -1,6 +1,6 @@
 -- `check_table` meets its contract: 12 for H decides, and where it passes 17 does.
 use mathlib.Core.Path.{sym, ◌∙◌}
-use Rattle.sched.specs.Checks.Laws.{check_same, then_fails, then_passes}
+use Rattle.sched.proofs.Checks.Laws.{check_same, then_fails, then_passes}
 use Rattle.sched.proofs.check_table.Goals as goal
 
 pub returns-in-Passed : goal.returns-in-Passed

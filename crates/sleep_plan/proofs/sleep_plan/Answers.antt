@@ -2,7 +2,7 @@
 use mathlib.Core.Path.{sym}
 use native.Mathlib.Omega.{arith}
 use lib.Seq.{length-take-le}
-use Rattle.joblist.specs.Theorems.Handed.{read_list, refused_list}
+use Rattle.joblist.proofs.Theorems.Handed.{read_list, refused_list}
 use Rattle.sleep_plan.proofs.Stores.{refused_puts}
 use Rattle.sleep_plan.proofs.Promised.{promise_short, promise_refused, promise_planned}
 use Rattle.sleep_plan.proofs.sleep_plan.Goals as goal

@@ -5,7 +5,7 @@ use Rattle.std.proofs.Common.{◌∙◌, arith}
 use Rattle.std.proofs.Math.Option.{Option, none, some}
 use Rattle.sched.specs.Jobs.{Jobs}
 use Rattle.sched.specs.Checks.{Passes, and_then, length_check, check_of}
-use Rattle.sched.specs.Checks.Laws.{passed_passes, passes_passed, then_passed, then_fails, then_passes, length_good, length_passes, length_fails}
+use Rattle.sched.proofs.Checks.Laws.{passed_passes, passes_passed, then_passed, then_fails, then_passes, length_good, length_passes, length_fails}
 use Rattle.steps.specs.Overload.{shown_overload}
 use Rattle.steps.specs.Outcomes.{Plan, early_answer, plan_by}
 use Rattle.sched.specs.declared.Refusal.{Refusal}

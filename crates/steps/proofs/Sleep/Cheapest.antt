@@ -7,7 +7,7 @@ use mathlib.Core.List.{List, [], ◌∷◌}
 use Rattle.std.proofs.Math.Option.{Option, none, some}
 use Rattle.std.proofs.Math.Nat.{mul-suc}
 use native.Mathlib.Omega.{arith}
-use Rattle.sched.specs.Bounded.Laws.{by_bool, true_not_false}
+use Rattle.sched.proofs.Bounded.Laws.{by_bool, true_not_false}
 use Rattle.sched.specs.Jobs.{Jobs}
 use Rattle.sched.specs.Slots.{mark_byte, asleep, awake_of, works, working_of}
 use Rattle.sched.specs.Energy.{awake_slots, runs_from, energy}

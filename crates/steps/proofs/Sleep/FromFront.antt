@@ -9,7 +9,7 @@ use Rattle.std.proofs.Math.Numerals.{unary_clauses}
 use Rattle.std.proofs.lemmas.List.{length-map}
 use Rattle.std.proofs.Math.ListN.{get_or-map}
 use Rattle.sched.specs.Bounded.{least_from, last_below, values_from}
-use Rattle.sched.specs.Bounded.Laws.{by_bool}
+use Rattle.sched.proofs.Bounded.Laws.{by_bool}
 use Rattle.sched.specs.Slots.{mark_byte, works, working_of}
 use Rattle.steps.specs.Sleep.{working, stays_awake, slept_byte, sleep_rule}
 

@@ -6,10 +6,10 @@ use Rattle.std.proofs.Math.Option.{Option, none, some}
 use Rattle.std.proofs.Math.Decide.{ℕ_discrete}
 use Rattle.std.proofs.lemmas.List.{length-map}
 use Rattle.std.proofs.Math.Seq.{drop-length}
-use Rattle.sched.specs.Bounded.Laws.{by_bool, values_length, values_at}
+use Rattle.sched.proofs.Bounded.Laws.{by_bool, values_length, values_at}
 use Rattle.sched.specs.Jobs.{Jobs, count}
 use Rattle.sched.specs.Slots.{mark_byte, idle, asleep, wakeful, awake_of, times, works, working_of}
-use Rattle.sched.specs.Slots.Laws.{awake_of_lem, awake_of_length, times_same, times_other}
+use Rattle.sched.proofs.Slots.Laws.{awake_of_lem, awake_of_length, times_same, times_other}
 use Rattle.sched.specs.Feasible.{Feasible}
 use Rattle.steps.specs.Sleep.{working, work_before, work_after, stays_awake, idle_at, slept_byte, sleep_rule}
 use Rattle.steps.proofs.Sleep.FromFront.{next_work, slept_from, next_none, slept_none, slept_work, slept_rest, slept_stretch, rule_from_front}

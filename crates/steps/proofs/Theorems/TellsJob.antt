@@ -5,8 +5,8 @@ use Rattle.std.proofs.Math.Option.{Option, none, some}
 use Rattle.sched.specs.Jobs.{Jobs}
 use Rattle.sched.specs.Checks.{length_check, check_of}
 use Rattle.sched.specs.Answers.{outcome_number, outcome_values}
-use Rattle.sched.specs.Theorems.RefusesJob.{JobFaultNumber, not_job, other_length}
-use Rattle.sched.specs.Theorems.TellsJob.{TellsJob, first_tells}
+use Rattle.sched.proofs.Theorems.RefusesJob.{JobFaultNumber, not_job, other_length}
+use Rattle.sched.proofs.Theorems.TellsJob.{TellsJob, first_tells}
 use Rattle.sched.specs.declared.Interval.{Interval}
 use Rattle.sched.specs.declared.Checked.{Checked}
 use Rattle.sched.specs.declared.Checked.TheVariants.{Passed, Refused as Faulty}

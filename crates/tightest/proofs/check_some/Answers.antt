@@ -1,6 +1,6 @@
 -- `check_some` meets its contract: its test is that of `no_jobs_check`.
 use borrow.Author.Tests.{eq-eqb, ne_eqb}
-use Rattle.sched.specs.Checks.Laws.{check_same}
+use Rattle.sched.proofs.Checks.Laws.{check_same}
 use Rattle.tightest.proofs.check_some.Goals as goal
 
 pub returns-then-n-eq0 : goal.returns-then-n-eq0

@@ -6,7 +6,7 @@ use Rattle.std.proofs.Common.{sym, ap, subst, ◌∙◌, inl, inr, arith}
 use Rattle.std.proofs.Math.Bool.{true, false}
 use borrow.Author.Tests.{lt-ltb, ltb-true, ltb-false, leb-true, leb-false}
 use Rattle.std.specs.Int.Signed.{lt_z, le_z, ≤ℤ_refl, clash_ℤ}
-use Rattle.sched.specs.Bounded.Laws.{lt_suc, by_bool, true_not_false, and_true, or_true, or_false}
+use Rattle.sched.proofs.Bounded.Laws.{lt_suc, by_bool, true_not_false, and_true, or_true, or_false}
 use Rattle.sched.specs.Jobs.{Jobs, count, release, deadline}
 use Rattle.sched.specs.Checks.{Passes}
 use Rattle.tightest.specs.declared.Tight.{Tight}

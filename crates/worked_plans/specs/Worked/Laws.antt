@@ -5,11 +5,11 @@ use mathlib.Core.List.Memᴰ.{cases_cons as apart}
 use mathlib.Core.List.Memᴰ.{not-nil as nowhere}
 use mathlib.Core.List.{List, [], ◌∷◌, ◌++◌, map, Memᴰ}
 use Rattle.std.proofs.Math.Option.{Option, none, some}
-use Rattle.sched.specs.Bounded.Laws.{and_true}
+use Rattle.sched.proofs.Bounded.Laws.{and_true}
 use Rattle.sched.specs.Jobs.{Jobs}
 use Rattle.sched.specs.Slots.{awake_of}
 use Rattle.sched.specs.Energy.{runs, energy}
-use Rattle.sched.specs.Feasible.Laws.{feasible_test, test_feasible}
+use Rattle.sched.proofs.Feasible.Laws.{feasible_test, test_feasible}
 use Rattle.steps.specs.Skeleton.{least_skeleton}
 use Rattle.steps.specs.Extension.{woken}
 use Rattle.steps.specs.Steps.{plan_table}

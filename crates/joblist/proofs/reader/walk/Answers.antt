@@ -1,6 +1,6 @@
 -- `reader::walk` meets its contract. The invariant: what is left of the checks and of the stores gives what all of them give.
 use native.Mathlib.Omega.{arith}
-use Rattle.list_parts.specs.Laws.Parts.{part_rest}
+use Rattle.list_parts.proofs.Laws.Parts.{part_rest}
 use Rattle.joblist.proofs.Walk.{walk_next, walk_stop, walk_left_over, walk_end}
 use Rattle.joblist.proofs.reader.walk.Goals as goal
 

@@ -2,7 +2,7 @@
 use Rattle.std.proofs.Common.{rules}
 use native.Mathlib.Omega.{arith}
 use lib.ListN.{get_or}
-use Rattle.list_parts.specs.Laws.Maps.{entry_small}
+use Rattle.list_parts.proofs.Laws.Maps.{entry_small}
 use Rattle.joblist.proofs.Spelling.{length_turn, length_end}
 use Rattle.joblist.proofs.writer.size.Goals as goal
 

@@ -8,12 +8,12 @@ use mathlib.Core.List.{List, [], ◌∷◌}
 use Rattle.std.proofs.Math.Option.{Option, none, some}
 use Rattle.std.proofs.Math.Decide.{ℕ_discrete}
 use Rattle.sched.specs.Bounded.{least_from}
-use Rattle.sched.specs.Bounded.Laws.{by_bool, true_not_false, or_true, or_left, or_right, least_some}
+use Rattle.sched.proofs.Bounded.Laws.{by_bool, true_not_false, or_true, or_left, or_right, least_some}
 use Rattle.sched.specs.Jobs.{Jobs, total_volume}
 use Rattle.sched.specs.Slots.{awake, awake_before, touches, wake_slot}
 use Rattle.steps.specs.Workable.{workable}
 use Rattle.steps.specs.Extension.{helps, wakeable, next_wake, woken_in}
-use Rattle.laws_extension.proofs.Waking.Laws.{awake_stays, wakes_parts, next_turn}
+use Rattle.laws_extension.proofs.Waking.Turns.{awake_stays, wakes_parts, next_turn}
 use Rattle.laws_extension.specs.Waking.Cursor.{NoneBefore, StaysIdle, cursor_after, next_from, woken_from}
 
 -- a search goes on behind numbers of which f does not hold
@@ -35,7 +35,7 @@ next_from_lem J S t l n =
     ∙ least_skip t (J.horizon - t) 0 (wakeable J S) (λ i l m. n i (omega arith))
     ∙ ap (λ (m : ℕ). least_from (J.horizon - t) m (wakeable J S)) (zero-add t))
 
-none_before_next : (J : Jobs) (S : List Bool) (x : ℕ) → next_wake J S ≡ some x → NoneBefore J S x
+pub none_before_next : (J : Jobs) (S : List Bool) (x : ℕ) → next_wake J S ≡ some x → NoneBefore J S x
 unfolding next_wake
 none_before_next J S x e i l = (least_some J.horizon 0 (wakeable J S) x e).first i (omega arith) l
 
@@ -103,24 +103,3 @@ module _ (J : Jobs) (stays : StaysIdle J) where
       go u (inr (b, inl d)) =
           stays_off S x i e l a b (n i b) (sym (touches_same S x i b d) ∙ (wakes_parts J (wake_slot S x) i u).1) u
       go u (inr (b, inr d)) = stays_off S x i e l a b (n i b) (rw (asleep_before_waking S x i (wakes_parts J (wake_slot S x) i u).0) at d) u
-
-  -- so the cursor wakes the slots that step 3 wakes, in its order
-  pub woken_from_lem : (n : ℕ) (S : List Bool) (t : ℕ) → length S ≡ J.horizon → t ≤ J.horizon → NoneBefore J S t → woken_from n J S t ≡ woken_in n J S
-  unfolding woken_from woken_in
-  woken_from_lem zero S t e l b = refl
-  woken_from_lem (suc n) S t e l b =
-      ap (λ (o : Option ℕ). turn (ltb (workable J S) (total_volume J)) o) (next_from_lem J S t l b)
-      ∙ go (ltb (workable J S) (total_volume J)) (next_wake J S) refl (λ x. woken_from_lem n (wake_slot S x) (cursor_after S x))
-    where
-      turn : Bool → Option ℕ → List ℕ
-      turn short o = elim short [ false ↦ [] | true ↦ elim o [ none ↦ [] | some x ↦ x ∷ woken_from n J (wake_slot S x) (cursor_after S x) ] ]
-
-      go : (short : Bool) (o : Option ℕ) → next_wake J S ≡ o
-          → ((x : ℕ) → length (wake_slot S x) ≡ J.horizon → cursor_after S x ≤ J.horizon → NoneBefore J (wake_slot S x) (cursor_after S x) → woken_from n J (wake_slot S x) (cursor_after S x) ≡ woken_in n J (wake_slot S x))
-          → turn short o ≡ elim short [ false ↦ [] | true ↦ elim o [ none ↦ [] | some x ↦ x ∷ woken_in n J (wake_slot S x) ] ]
-      go false o q ih = refl
-      go true none q ih = refl
-      go true (some x) q ih =
-          let w = next_turn J S x q in
-          let k = none_before_after S x e w.below w.sleeps (none_before_next J S x q) in
-          ap (λ (l : List ℕ). x ∷ l) (ih x (length-set S x true ∙ e) (omega (arith, cursor_moves S x, w.below)) k)

@@ -8,13 +8,13 @@ use Rattle.std.proofs.Math.Option.{Option, none, some}
 use Rattle.std.proofs.Math.Decide.{ℕ_discrete}
 use native.Mathlib.Omega.{arith}
 use Rattle.std.proofs.lemmas.Bool.{eqb-false, not-true}
-use Rattle.sched.specs.Bounded.Laws.{true_not_false, and_true, or_false, least_some}
+use Rattle.sched.proofs.Bounded.Laws.{true_not_false, and_true, or_false, least_some}
 use Rattle.sched.specs.Jobs.{Jobs, total_volume}
 use Rattle.sched.specs.Slots.{awake, touches, wake_slot, times}
 use Rattle.steps.specs.Workable.{workable}
-use Rattle.sched.specs.Slots.Laws.{times_same, times_other, times_append}
+use Rattle.sched.proofs.Slots.Laws.{times_same, times_other, times_append}
 use Rattle.steps.specs.Extension.{wakeable}
-use Rattle.laws_extension.proofs.Waking.Laws.{awake_stays}
+use Rattle.laws_extension.proofs.Waking.Turns.{awake_stays}
 use Rattle.laws_extension.specs.Waking.Cursor.{cursor_after, next_from, tries, tried_from}
 use Rattle.laws_extension.proofs.Waking.Cursor.Laws.{touches_stays}
 

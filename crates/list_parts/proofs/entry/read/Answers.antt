@@ -4,7 +4,7 @@ use native.Mathlib.Omega.{arith}
 use borrow.Author.Tests.{ltb-false}
 use lib.ListN.{length}
 use Rattle.list_parts.specs.Entries.{known_maps, entry_size}
-use Rattle.list_parts.specs.Laws.Entry.{map_passed}
+use Rattle.list_parts.proofs.Laws.Entry.{map_passed}
 use Rattle.list_parts.proofs.Fields.{map_refused, field_missing, job_answers}
 use Rattle.list_parts.proofs.entry.read.Goals as goal
 

@@ -1,7 +1,7 @@
 -- `writer::put_entry` meets its contract: the map byte and the three fields stand one behind the other.
 use native.Mathlib.Omega.{arith}
 use lib.ListN.{length-set}
-use Rattle.sched.specs.Buffers.Laws.{put_length}
+use Rattle.sched.proofs.Buffers.Laws.{put_length}
 use Rattle.list_parts.proofs.Putting.{entry_length, put_entry}
 use Rattle.list_parts.proofs.writer.put_entry.Goals as goal
 

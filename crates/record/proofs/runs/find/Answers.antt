@@ -4,8 +4,8 @@ use native.Mathlib.Omega.{arith}
 use lib.ListN.{length, take}
 use lib.Seq.{length-take-le}
 use Rattle.record_map.specs.MapBits.{bits_of}
-use Rattle.record_map.specs.MapBits.Laws.{length_bits}
-use Rattle.record.specs.OneRun.Laws.{searched_start, searched_found, searched_next, searched_small, searched_forward, searched_none}
+use Rattle.record_map.proofs.MapBits.Laws.{length_bits}
+use Rattle.record.proofs.OneRun.Laws.{searched_start, searched_found, searched_next, searched_small, searched_forward, searched_none}
 use Rattle.record.proofs.runs.find.Goals as goal
 
 pub end-first-requires : goal.end-first-requires

@@ -2,7 +2,7 @@
 use Prim.Native.Nat.{◌-◌}
 use lib.ListN.{take}
 use Rattle.record_map.specs.MapBits.{bits_of}
-use Rattle.record.specs.OneRun.Laws.{Searched}
+use Rattle.record.proofs.OneRun.Laws.{Searched}
 use Rattle.record.proofs.runs.find.Given as goal
 
 abbrev pub invariant-loop-first : goal.invariant-loop-first

@@ -4,7 +4,7 @@ use mathlib.Core.Bool.{false}
 use native.Mathlib.Omega.{arith}
 use lib.ListN.{take}
 use lib.Seq.{get_or-take}
-use Rattle.sched.specs.Runs.Search.{reached_none, reached_turn, reached_on, reached_end}
+use Rattle.sched.proofs.Runs.Search.{reached_none, reached_turn, reached_on, reached_end}
 use Rattle.record_map.specs.MapBits.{bits_of}
 use Rattle.record_map.proofs.reader.end.Goals as goal
 

@@ -1,7 +1,7 @@
 -- `end` meets its contract: the slots passed are all in the same state.
 use Prim.Native.Nat.{◌-◌}
 use lib.ListN.{take}
-use Rattle.sched.specs.Runs.Search.{Reached}
+use Rattle.sched.proofs.Runs.Search.{Reached}
 use Rattle.record_map.specs.MapBits.{bits_of}
 use Rattle.record_map.proofs.reader.end.Given as goal
 

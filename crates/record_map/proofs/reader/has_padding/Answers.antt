@@ -5,7 +5,7 @@ use mathlib.Core.List.{List}
 use native.Mathlib.Omega.{arith}
 use lib.ListN.{length}
 use Rattle.record_map.specs.MapBits.{bits_of}
-use Rattle.record_map.specs.MapBits.Laws.{length_bits}
+use Rattle.record_map.proofs.MapBits.Laws.{length_bits}
 use Rattle.record_map.proofs.MapRead.{padding_clear, padding_stands, padding_end}
 use Rattle.record_map.proofs.reader.has_padding.Goals as goal
 

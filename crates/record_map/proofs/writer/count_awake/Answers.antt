@@ -5,7 +5,7 @@ use mathlib.Core.List.{List, map}
 use native.Mathlib.Omega.{arith}
 use lib.Count.{ones}
 use Rattle.sched.specs.Bounded.{total}
-use Rattle.record_map.specs.MapBytes.Laws.{map_of, ones_few}
+use Rattle.record_map.proofs.MapBytes.Laws.{map_of, ones_few}
 use Rattle.record_map.proofs.Bits.{counted_start, counted_turn, counted_end}
 use Rattle.record_map.proofs.writer.count_awake.Goals as goal
 

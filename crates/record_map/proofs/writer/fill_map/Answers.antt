@@ -1,5 +1,5 @@
 -- `fill_map` meets its contract: it stores one map byte a turn.
-use Rattle.record_map.specs.MapBytes.Laws.{map_of}
+use Rattle.record_map.proofs.MapBytes.Laws.{map_of}
 use Rattle.record_map.proofs.MapFilling.{map_start, map_room, map_turn, map_end}
 use Rattle.record_map.proofs.writer.fill_map.Goals as goal
 

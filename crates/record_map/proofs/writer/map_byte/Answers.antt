@@ -2,7 +2,7 @@
 use Prim.Native.Nat.{◌+◌, ◌-◌}
 use native.Mathlib.Omega.{arith}
 use Rattle.sched.specs.Slots.{awake, awake_of}
-use Rattle.sched.specs.Bits.Laws.{bit_small}
+use Rattle.sched.proofs.Bits.Laws.{bit_small}
 use Rattle.record_map.proofs.Bits.{packed_start, packed_small, packed_turn, packed_end}
 use Rattle.record_map.proofs.writer.map_byte.Goals as goal
 

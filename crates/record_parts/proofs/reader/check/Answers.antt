@@ -1,6 +1,6 @@
 -- `check` meets its contract: the horizon, and where it passes the rest.
 use mathlib.Core.Path.{sym, ◌∙◌}
-use Rattle.sched.specs.Checks.Laws.{horizon_good}
+use Rattle.sched.proofs.Checks.Laws.{horizon_good}
 use Rattle.record_parts.proofs.Checking.{record_cut, record_rest, record_range}
 use Rattle.record_parts.proofs.reader.check.Goals as goal
 

@@ -1,7 +1,7 @@
 -- `check_bytes` meets its contract: a turn is a byte of the walk.
 use mathlib.Core.Path.{refl}
 use Rattle.std.proofs.Common.{rules}
-use Rattle.sched.specs.Checks.Bytes.{byte_passed, byte_refused, bytes_passed}
+use Rattle.sched.proofs.Checks.Bytes.{byte_passed, byte_refused, bytes_passed}
 use Rattle.record_parts.specs.Bytes.{slot_byte_check}
 use Rattle.record_parts.proofs.Checking.{is_job, is_idle, is_neither}
 use Rattle.record_parts.proofs.reader.check_bytes.Goals as goal

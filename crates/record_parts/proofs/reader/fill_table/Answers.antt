@@ -4,7 +4,7 @@ use Rattle.std.proofs.Common.{sym, ◌∙◌, arith, length-take-le}
 use lib.Seq.{get_or-take}
 use Rattle.sched.specs.Slots.{awake}
 use Rattle.record_map.specs.MapBits.{bits_of}
-use Rattle.record_map.specs.MapBits.Laws.{length_bits}
+use Rattle.record_map.proofs.MapBits.Laws.{length_bits}
 use Rattle.record_parts.proofs.Spreading.{spreading_start, spreading_room, spreading_awake, spreading_asleep, spreading_end}
 use Rattle.record_parts.proofs.reader.fill_table.Goals as goal
 

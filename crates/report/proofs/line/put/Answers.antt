@@ -1,7 +1,7 @@
 -- `line::put` meets its contract: the numbers stand behind the word, and byte 10 behind them.
 use native.Mathlib.Omega.{arith}
 use Rattle.report.specs.Report.Laws.{line_length}
-use Rattle.sched.specs.Buffers.Laws.{put_length}
+use Rattle.sched.proofs.Buffers.Laws.{put_length}
 use Rattle.report.proofs.Putting.{numbers_fit, end_fits, line_put}
 use Rattle.report.proofs.line.put.Goals as goal
 

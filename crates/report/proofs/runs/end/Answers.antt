@@ -2,8 +2,8 @@
 use mathlib.Core.Path.{sym, ◌∙◌}
 use lib.ListN.{length}
 use Rattle.sched.specs.Slots.{awake_of}
-use Rattle.sched.specs.Slots.Laws.{awake_of_lem}
-use Rattle.sched.specs.Runs.Search.{reached_none, reached_turn, reached_on, reached_end}
+use Rattle.sched.proofs.Slots.Laws.{awake_of_lem}
+use Rattle.sched.proofs.Runs.Search.{reached_none, reached_turn, reached_on, reached_end}
 use Rattle.report.proofs.runs.end.Goals as goal
 
 pub loop-t-init : goal.loop-t-init

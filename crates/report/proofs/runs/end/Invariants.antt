@@ -2,7 +2,7 @@
 use Prim.Native.Nat.{◌-◌}
 use lib.ListN.{length}
 use Rattle.sched.specs.Slots.{awake_of}
-use Rattle.sched.specs.Runs.Search.{Reached}
+use Rattle.sched.proofs.Runs.Search.{Reached}
 use Rattle.report.proofs.runs.end.Given as goal
 
 abbrev pub invariant-loop-t : goal.invariant-loop-t

@@ -2,7 +2,7 @@
 use native.Mathlib.Omega.{arith}
 use lib.ListN.{length}
 use Rattle.sched.specs.Slots.{awake_of}
-use Rattle.sched.specs.Runs.Search.{run_moves}
+use Rattle.sched.proofs.Runs.Search.{run_moves}
 use Rattle.report.proofs.Stretches.{lines_left_start, lines_left_room, lines_left_turn, lines_left_end}
 use Rattle.report.proofs.runs.put.Goals as goal
 

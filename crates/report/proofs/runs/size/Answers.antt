@@ -2,7 +2,7 @@
 use native.Mathlib.Omega.{arith}
 use lib.ListN.{length}
 use Rattle.sched.specs.Slots.{awake_of}
-use Rattle.sched.specs.Runs.Search.{run_moves}
+use Rattle.sched.proofs.Runs.Search.{run_moves}
 use Rattle.report.proofs.Stretches.{lines_sized_start, lines_sized_few, lines_sized_turn, lines_sized_end}
 use Rattle.report.proofs.runs.size.Goals as goal
 

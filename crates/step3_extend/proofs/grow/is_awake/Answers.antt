@@ -1,6 +1,6 @@
 -- `grow::is_awake` meets its contract: slots past the table sleep.
 use Rattle.step3_extend.proofs.Reading.{asleep_past}
-use Rattle.sched.specs.Slots.Laws.{awake_of_lem}
+use Rattle.sched.proofs.Slots.Laws.{awake_of_lem}
 use mathlib.Core.Path.{sym}
 use Rattle.step3_extend.proofs.grow.is_awake.Goals as goal
 

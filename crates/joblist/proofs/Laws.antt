@@ -1,0 +1,5 @@
+pub mod Front
+pub mod Input
+pub mod Lists
+pub mod Places
+pub mod RoundTrip

@@ -1,0 +1,150 @@
+-- The entries of a list, by the table of the eight maps: behind the header they stand one behind the other, each as the row of its job's map says, and
+-- nothing follows the last. So it is of all bytes that `read` takes, and of all that `write` writes.
+use Prim.Native.Nat.{ℕ, zero, suc, ◌+◌, ◌≤◌, ◌<◌}
+use Rattle.std.specs.Prelude.{◌≡◌, refl, get_or, take}
+use Rattle.std.proofs.Math.Path.{ap, sym}
+use Rattle.std.proofs.Common.{subst, ◌∙◌, arith, take_at}
+use mathlib.Core.List.{List, [], ◌∷◌}
+use Rattle.std.proofs.Math.ListN.{length, drop, length-drop}
+use Rattle.std.proofs.Math.Seq.{drop-drop}
+use Rattle.sched.specs.Jobs.{Jobs, jobs_of, count}
+use Rattle.sched.specs.Checks.{Passes, length_check, check_of, job_check}
+use Rattle.sched.proofs.Checks.Laws.{passed_passes, then_passed}
+use Rattle.sched.specs.declared.Checked.{Checked}
+use Rattle.sched.specs.declared.Checked.TheVariants.{Passed, Refused as Faulty}
+use Rattle.list_parts.specs.Header.{header_length, header_horizon, header_count}
+use Rattle.list_parts.specs.Layout.{absent_release, absent_deadline, absent_volume, job_map}
+use Rattle.list_parts.specs.Entries.{entry_map, release_of, deadline_of, volume_of, entry_size, known_maps, entry_check, entries_check, column}
+use Rattle.list_parts.proofs.Laws.Entry.{GoodMap, GoodEntry, entry_passed}
+use Rattle.list_parts.proofs.Laws.Walk.{entries_first, entries_none}
+use Rattle.joblist.specs.Bytes.{spelling}
+use Rattle.joblist.specs.Reading.{LentRoom, read_check, list_of, ReadPromise}
+use Rattle.joblist.specs.Writing.{spell_check, Writing, written_if, writing, WritePromise}
+use Rattle.joblist.proofs.Laws.RoundTrip.{map_again}
+use Rattle.joblist.proofs.Laws.Input.{read_passed, read_passes}
+use Rattle.joblist.proofs.Laws.Lists.{field_count, list_back, spelling_good}
+use Rattle.joblist.proofs.Theorems.EightMaps.{Row, row_of, field_at, ReadBy, eight_maps}
+use Rattle.joblist.proofs.Theorems.Handed.{read_list}
+use Rattle.joblist.specs.declared.ListHeader.{ListHeader}
+use Rattle.joblist.specs.declared.ListRead.TheVariants.{Read}
+use Rattle.joblist.specs.declared.ListWritten.{ListWritten}
+use Rattle.joblist.specs.declared.ListWritten.TheVariants.{Written, Refused}
+
+-- the row of the map byte at an offset
+abbrev pub row_at : List ℕ → ℕ → Row
+row_at bytes at = row_of (get_or (drop at bytes) 0 0)
+
+-- the offset of the i-th entry behind the one at `at`: each starts where the one before ends
+unfoldable pub entry_start : List ℕ → ℕ → ℕ → ℕ
+entry_start bytes at zero = at
+entry_start bytes at (suc i) = entry_start bytes (at + (row_at bytes at).size) i
+
+-- the job (r, d, p) stands at an offset: its map, all bytes of its row, and each field where the row says
+pub record JobAt (h r d p : ℕ) (bytes : List ℕ) (at : ℕ) : Type 0 where
+  pub map : get_or (drop at bytes) 0 0 ≡ job_map h r d p
+  pub inside : at + (row_at bytes at).size ≤ length bytes
+  pub release : r ≡ field_at (row_at bytes at).release absent_release (drop at bytes)
+  pub deadline : d ≡ field_at (row_at bytes at).deadline (absent_deadline h) (drop at bytes)
+  pub volume : p ≡ field_at (row_at bytes at).volume absent_volume (drop at bytes)
+
+-- the entries of a list's jobs fill the bytes behind the header
+pub record LaidOut (J : Jobs) (bytes : List ℕ) : Type 0 where
+  pub jobs : (j : ℕ) → j < count J →
+      JobAt J.horizon (get_or J.releases j 0) (get_or J.deadlines j 0) (get_or J.volumes j 0) bytes (entry_start bytes header_length j)
+  pub end : entry_start bytes header_length (count J) ≡ length bytes
+
+read_known : (bs : List ℕ) → GoodMap known_maps bs → ReadBy (row_of (entry_map bs)) bs
+read_known [] g = absurd (omega (arith, g.some))
+read_known (m ∷ rest) g = (eight_maps m g.known).read rest
+
+module _ (h : ℕ) (bytes : List ℕ) where
+  abbrev Job : ℕ → ℕ → ℕ → Type 0
+  Job k at i =
+      JobAt h (get_or (column entry_size release_of k (drop at bytes)) i 0) (get_or (column entry_size (deadline_of h) k (drop at bytes)) i 0)
+      (get_or (column entry_size volume_of k (drop at bytes)) i 0) bytes (entry_start bytes at i)
+
+  -- k entries that pass
+  laid_out : (k j at : ℕ) → at ≤ length bytes → entries_check (entry_check job_check h (length bytes)) entry_size k j at (drop at bytes) ≡ Passed →
+      ((i : ℕ) → i < k → Job k at i) × (entry_start bytes at k ≡ length bytes)
+  unfolding entry_start
+  laid_out zero j at l e =
+      let done = entries_none (entry_check job_check h (length bytes)) entry_size j at (drop at bytes) e in
+      (λ i m. absurd (omega arith), omega (arith, ap length done, length-drop at bytes))
+  laid_out (suc k) j at l e =
+      let bs : List ℕ = drop at bytes in
+      let first = entries_first (entry_check job_check h (length bytes)) entry_size k j at bs e in
+      let g = entry_passed job_check h (length bytes) j at bs first.0 in
+      let row = read_known bs g.map in
+      let size = (eight_maps (entry_map bs) g.map.known).size in
+      let more =
+      laid_out k (suc j) (at + (row_at bytes at).size) (omega (arith, size, g.whole, length-drop at bytes))
+      (rw (size, drop-drop (row_at bytes at).size at bytes) at first.1) in
+      (jobs g row more, more.1)
+    where
+      jobs : GoodEntry job_check h j (drop at bytes) → ReadBy (row_at bytes at) (drop at bytes) →
+          ((i : ℕ) → i < k → Job k (at + (row_at bytes at).size) i) × (entry_start bytes (at + (row_at bytes at).size) k ≡ length bytes) →
+          (i : ℕ) → i < suc k → Job (suc k) at i
+      jobs g row more zero m =
+          let size = (eight_maps (entry_map (drop at bytes)) g.map.known).size in
+          rw (row.reads release_of k, row.reads (deadline_of h) k, row.reads volume_of k)
+          (record {
+            map = sym (map_again h j (drop at bytes) g);
+            inside = omega (arith, size, g.whole, length-drop at bytes);
+            release = row.release;
+            deadline = row.deadline h;
+            volume = row.volume;
+          })
+      jobs g row more (suc i) m =
+          rw (row.reads release_of k, row.reads (deadline_of h) k, row.reads volume_of k, drop-drop (row_at bytes at).size at bytes)
+          (more.0 i (omega arith))
+
+-- where the reader's checks pass, and so for the spelling of a list
+check_laid_out : (bytes : List ℕ) (r d p : ℕ) → read_check bytes r d p ≡ Passed → LaidOut (list_of bytes) bytes
+check_laid_out bytes r d p e =
+    let g = read_passed bytes r d p e in
+    let all = laid_out (header_horizon bytes) bytes (header_count bytes) 0 header_length g.header.long g.entries in
+    let n = field_count bytes release_of in
+    record { jobs = λ j l. all.0 j (rw n at l); end = rw n all.1 }
+
+spelling_laid_out : (h q : ℕ) (rs ds ps : List ℕ) → Passes (jobs_of h q rs ds ps) → LaidOut (jobs_of h q rs ds ps) (spelling (jobs_of h q rs ds ps))
+spelling_laid_out h q rs ds ps g =
+    let J = jobs_of h q rs ds ps in
+    let n = count J in
+    let room : LentRoom n n n n = record { releases = omega arith; deadlines = omega arith; volumes = omega arith } in
+    subst (λ (K : Jobs). LaidOut K (spelling J)) (list_back J refl g)
+    (check_laid_out (spelling J) n n n (read_passes (spelling J) n n n (spelling_good J n n n g room)))
+
+-- The theorem for `read`: where it takes the bytes, the jobs at the front of the three lists stand in them
+pub read_laid_out : (bytes rs ds ps rs' ds' ps' : List ℕ) (list : ListHeader) → ReadPromise bytes rs ds ps (Read list) rs' ds' ps' →
+    LaidOut (jobs_of list.h list.q (take list.count rs') (take list.count ds') (take list.count ps')) bytes
+read_laid_out bytes rs ds ps rs' ds' ps' list m =
+    let l = read_list bytes rs ds ps rs' ds' ps' (Read list) m list refl in
+    subst (λ (J : Jobs). LaidOut J bytes) (sym l.jobs) (check_laid_out bytes (length rs) (length ds) (length ps) l.passed)
+
+-- The theorem for `write`: the jobs of the list stand in the bytes that it writes
+pub write_laid_out : (h q : ℕ) (rs ds ps out out' : List ℕ) (n : ℕ) → WritePromise (jobs_of h q rs ds ps) out (Written n) out' →
+    LaidOut (jobs_of h q rs ds ps) (take n out')
+unfolding writing
+write_laid_out h q rs ds ps out out' n m = by_check (spell_check J (length out)) refl
+  where
+    J : Jobs
+    J = jobs_of h q rs ds ps
+
+    writing_by : (c : Checked) → spell_check J (length out) ≡ c → writing J out ≡ written_if c J out
+    writing_by c e = ap (λ (x : Checked). written_if x J out) e
+
+    answered : (w : Writing) → writing J out ≡ w → Written n ≡ w.answer
+    answered w e = m.same ∙ ap (λ (x : Writing). x.answer) e
+
+    by_check : (c : Checked) → spell_check J (length out) ≡ c → LaidOut J (take n out')
+    by_check (Faulty r) e =
+        let x : ◌≡◌ {A = ListWritten} (Written n) (Refused r) = answered _ (writing_by (Faulty r) e) in
+        let z : ◌≡◌ {A = ℕ} 0 1 = cc in
+        absurd (omega arith)
+    by_check Passed e =
+        let w = writing_by Passed e in
+        let a : Written n ≡ Written (length (spelling J)) = answered _ w in
+        let size : length (spelling J) ≡ n = cc in
+        let kept = m.kept ∙ ap (λ (x : Writing). x.out) w in
+        let passes = passed_passes J (then_passed (check_of J) (length_check (length out) (length (spelling J))) e).0 in
+        rw (kept, take_at (spelling J) (drop (length (spelling J)) out) n size) (spelling_laid_out h q rs ds ps passes)

@@ -1,0 +1,4 @@
+pub mod FaultyField
+pub mod OnlyNumber
+pub mod RefusesJob
+pub mod TellsJob
