@@ -2,7 +2,7 @@
 use test_bytes::{byte, digest_from, number};
 
 // How many slots are idle and asleep, the energies added up, and a digest of all bytes. The sums are modulo 2^64, which none here comes near.
-#[derive(Drop)]
+#[derive(Clone, Copy)]
 pub struct Tally {
     pub idle: u64,
     pub asleep: u64,
