@@ -6,7 +6,7 @@ use super::tally::Tally;
 use test_bytes::{below, first_entries, next, number, put_entry};
 
 // What is drawn first: slots, jobs, wake cost, how many deadlines there are, the greatest volume; and the state behind that.
-#[derive(Drop)]
+#[derive(Clone, Copy)]
 struct Sizes {
     h: u64,
     n: usize,
@@ -24,7 +24,7 @@ fn most_jobs(h: u64) -> u64
 }
 
 // The kinds of lists: at least so many slots, so many different numbers of slots, and volumes of at most so much.
-#[derive(Drop)]
+#[derive(Clone, Copy)]
 struct Kind {
     least: u64,
     spread: u64,

@@ -31,7 +31,7 @@ fn volume(h: u32, c: u32) -> u16
 }
 
 // The lists of one kind: n jobs, so many slots, and so many jobs of which each can be any.
-#[derive(Drop)]
+#[derive(Clone, Copy)]
 struct Kind {
     n: u32,
     h: u32,

@@ -4,7 +4,7 @@ use test_bytes::{mixed, number, plus};
 
 // How many lists were planned, refused or overloaded; the figures of the plans and how often the job changes in their tables, added up; and a digest
 // of all answers and tables. The sums are modulo 2^64, which none here comes near.
-#[derive(Drop)]
+#[derive(Clone, Copy)]
 pub struct Tally {
     pub lists: u64,
     pub refused: u64,
