@@ -6,14 +6,14 @@ use super::tally::Tally;
 use test_bytes::{below, first_entries, next, number, put_entry};
 
 // The kinds of lists: at most so many slots, and volumes of at most so much.
-#[derive(Drop)]
+#[derive(Clone, Copy)]
 struct Kind {
     slots: u64,
     volumes: u64,
 }
 
 // What is drawn first: slots, jobs, the greatest volume; and the state behind that.
-#[derive(Drop)]
+#[derive(Clone, Copy)]
 struct Sizes {
     h: u64,
     n: usize,

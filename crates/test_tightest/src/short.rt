@@ -29,7 +29,7 @@ fn volume(h: u32, c: u32) -> u16
 }
 
 // The lists of one kind: slots, jobs, and how many different jobs there are.
-#[derive(Drop)]
+#[derive(Clone, Copy)]
 struct Kind {
     h: u32,
     n: u32,

@@ -6,7 +6,7 @@ use tightest::{Tight, Tightness};
 
 // How many lists there are; how many were refused, how many have a slack below zero, how many a slack of zero; for how many the planner says
 // overload; and a digest of all answers. Counts are modulo 2^64, which none here comes near.
-#[derive(Drop)]
+#[derive(Clone, Copy)]
 pub struct Tally {
     pub lists: u64,
     pub refused: u64,
