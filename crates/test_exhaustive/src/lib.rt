@@ -18,7 +18,7 @@ pub use small::{Small, digit, volume};
 
 // A list's outcome by document 01 with cards 5, 6 and 10: overloaded with the interval shown, a and b, or planned with energy, awake slots, runs,
 // added and the table. What does not apply is 0.
-#[derive(Drop)]
+#[derive(Clone, Copy)]
 pub struct Solved {
     pub overloaded: bool,
     pub a: u32,

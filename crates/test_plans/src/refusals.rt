@@ -8,7 +8,7 @@ use test_bytes::begin;
 
 // Lists of these lengths, and a table of `room` bytes. Every job is (0, h, 1), but jobs `one` and
 // `other` are (r, d, p). The wake cost is 1, and `start` says whether the processor is awake before slot 0.
-#[derive(Drop)]
+#[derive(Clone, Copy)]
 struct Trial {
     h: u16,
     start: bool,
