@@ -3,4 +3,4 @@ pub mod Parts
 pub mod Checking
 pub mod Spreading
 pub mod Bytes
-pub mod Layout
+pub mod LayoutLaws

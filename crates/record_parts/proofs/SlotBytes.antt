@@ -10,7 +10,7 @@ use Rattle.sched.specs.Bounded.{keep}
 use Rattle.record_map.specs.Stored.{stored}
 use Rattle.record_map.proofs.Stored.Laws.{Filling, filling_start, filling_turn, filling_end}
 use Rattle.record_parts.specs.Layout.{slot_bytes}
-use Rattle.record_parts.proofs.Layout.Laws.{slot_awake, slot_asleep}
+use Rattle.record_parts.proofs.LayoutLaws.{slot_awake, slot_asleep}
 
 -- the slot bytes of the slots from t on
 

@@ -26,7 +26,7 @@ use Rattle.record_map.proofs.MapBytes.Laws.{length_map_of, ones_of_slots}
 use Rattle.record_map.specs.MapBits.{bits_of, some_bit}
 use Rattle.record_map.proofs.MapBits.Laws.{set_back, padding_back, map_again}
 use Rattle.record_parts.specs.Layout.{behind_map, slot_bytes, front_of, record_of}
-use Rattle.record_parts.proofs.Layout.Laws.{length_record, length_slot_bytes, slot_awake, slot_asleep}
+use Rattle.record_parts.proofs.LayoutLaws.{length_record, length_slot_bytes, slot_awake, slot_asleep}
 use Rattle.record_parts.specs.Bytes.{map_in, slots_in, slot_byte_count, slot_byte_check, record_check, spread}
 use Rattle.record.specs.Reading.{table_in}
 use Rattle.record_parts.proofs.Bytes.Laws.{GoodRecord, record_passes, map_in_bytes, length_map_read, length_slots_in, slot_bytes_are_awake, awake_up_to, awake_part, length_spread, spread_awake, spread_asleep}

@@ -9,7 +9,7 @@ use Rattle.sched.proofs.Checks.Laws.{length_good}
 use Rattle.sched.specs.Slots.{awake_of}
 use Rattle.record_map.specs.MapBytes.{map_length}
 use Rattle.record_map.proofs.MapBytes.Laws.{ones_of_slots, map_ones_few}
-use Rattle.record_parts.proofs.Layout.Laws.{record_size}
+use Rattle.record_parts.proofs.LayoutLaws.{record_size}
 use Rattle.record.proofs.Answers.{no_room, room}
 use Rattle.record.proofs.write_slots.Goals as goal
 

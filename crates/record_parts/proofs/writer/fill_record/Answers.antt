@@ -3,7 +3,7 @@ use native.Mathlib.Omega.{arith}
 use lib.ListN.{length-take, length-drop}
 use Rattle.record_map.proofs.MapBytes.Laws.{length_map_of}
 use Rattle.record_parts.specs.Layout.{front_of, slot_bytes, record_of}
-use Rattle.record_parts.proofs.Layout.Laws.{length_record, length_slot_bytes}
+use Rattle.record_parts.proofs.LayoutLaws.{length_record, length_slot_bytes}
 use Rattle.record_parts.proofs.Parts.{next_piece}
 use Rattle.record_parts.proofs.writer.fill_record.Goals as goal
 
