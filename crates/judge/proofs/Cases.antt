@@ -10,7 +10,7 @@ use Rattle.sched.specs.declared.Refusal.TheVariants.{BadByte, TooOften, OutOfSpa
 use Rattle.judge.specs.declared.Judged.TheVariants.{Accepted, Refused}
 use Rattle.judge.specs.Faults.{slots_from, rare_from, faults_by}
 use Rattle.judge.specs.Verdict.{judged}
-use Rattle.judge.proofs.Theorems.SpanFirst.{judged_before}
+use Rattle.judge.specs.Theorems.SpanFirst.{judged_before}
 use Rattle.sched.specs.Runs.{leading, run_list_from, run_list}
 
 pub third_accepted : judged third third_table ≡ Accepted (record { energy = 13; awake = 10; runs = 1 })

@@ -2,3 +2,4 @@
 -- the judge is worth.
 pub mod Faults
 pub mod Verdict
+pub mod Theorems

@@ -98,7 +98,7 @@ module _ (J : Jobs) (lent : List ℕ) (p : Passes J) (n : (a b : ℕ) → overlo
     reported = rw first_bytes;
   }
 
-module _ (J : Jobs) (lent : List ℕ) (p : Passes J) (m : J.horizon ≤ length lent) where
+module _ (J : Jobs) (lent : List ℕ) (p : Passes J) (long : J.horizon ≤ length lent) where
   -- an energy is reported where no interval is overloaded; it is that of the plan's table, which is handed over
   PlannedIs : ℕ → Type 0
   PlannedIs reported =
@@ -109,25 +109,26 @@ module _ (J : Jobs) (lent : List ℕ) (p : Passes J) (m : J.horizon ≤ length l
   reported_is reported r = by_shown (shown_overload J) refl
     where
       by_shown : (o : Option Interval) → shown_overload J ≡ o → PlannedIs reported
-      by_shown (some i) e = absurd (rw (plan_ended planned J lent (Overloaded i) (early_overload J (length lent) p m i e)) at r)
+      by_shown (some i) e = absurd (rw (plan_ended planned J lent (Overloaded i) (early_overload J (length lent) p long i e)) at r)
       by_shown none e =
-          let on = plan_goes_on planned J lent (early_none J (length lent) p m e) in
+          let on = plan_goes_on planned J lent (early_none J (length lent) p long e) in
           let free = shown_none J e in
           (free, sym (rw on at r), ap (λ (x : Plan). take J.horizon x.table) on ∙ first_bytes J lent p free)
 
+module _ (J : Jobs) (lent : List ℕ) (p : Passes J) (m : J.horizon ≤ length lent) where
   -- Ours and any rival, which starts in the same state.
   pub demand_three : AgainstRivals J (as_outcome (plan J lent).answer) (take J.horizon (plan J lent).table)
   unfolding plan PlannedIs
   demand_three = record {
     sound = any_planner_sound planned J lent p m (λ n. plan_delivers J lent p n);
-    limit = λ reported r rival f. let s = reported_is reported r in omega (arith, s.1, plan_energy J p s.0 rival f);
+    limit = λ reported r rival f. let s = reported_is J lent p m reported r in omega (arith, s.1, plan_energy J p s.0 rival f);
   }
 
   -- Ours and any table in which the same slots work as in ours.
   pub cheapest_sleep : CheapestSleep J (as_outcome (plan J lent).answer) (take J.horizon (plan J lent).table)
   unfolding plan PlannedIs
   cheapest_sleep reported r =
-      let (free, energy_is, table_is) = reported_is reported r in
+      let (free, energy_is, table_is) = reported_is J lent p m reported r in
       rw table_is (energy_is, λ other same. plan_cheapest J other same)
 
 planned_not_overloaded : (f : PlanFigures) (i : Interval) → ◌≡◌ {A = Outcome} (Planned f) (Overloaded i) → ⊥

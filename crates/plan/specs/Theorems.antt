@@ -4,7 +4,8 @@ use Rattle.std.proofs.Common.{ap, sym, ◌∙◌}
 use Rattle.sched.specs.declared.Checked.{Checked}
 use Rattle.sched.specs.declared.Checked.TheVariants.{Passed, Refused as Faulty}
 use Rattle.joblist.specs.Reading.{read_check}
-use Rattle.joblist.proofs.Theorems.Longest.{first_bytes_check, read_all_first}
+use Rattle.joblist.proofs.Theorems.Longest.{first_bytes_check}
+use Rattle.joblist.proofs.Theorems.Longest.Read.{read_all_first}
 use Rattle.plan.specs.Program.{printed_after, printed}
 
 pub first_bytes_print : (input : List ℕ) → printed (take 454 input) ≡ printed input

@@ -1,5 +1,4 @@
--- What a reported interval is worth: no interval from a release to a deadline has less slack, and none at all that holds a job. `Overload` says what its
--- slack tells of the planner.
+-- 02, card 7: what the tightest interval is, by the words of `specs/Theorems`.
 use Rattle.std.specs.Prelude.{ℕ, zero, suc, ◌+◌, ◌≤◌, ◌<◌, ◌≡◌, refl, true, false, ◌⊎◌, eqb, ◌≤ℤ◌}
 use Rattle.std.proofs.Common.{sym, ap, ◌∙◌, arith, eqb-true}
 use Rattle.std.proofs.lemmas.Bool.{eqb-false}
@@ -19,25 +18,8 @@ use Rattle.tightest.specs.Signed.{slack_at_most, at_most_trans}
 use Rattle.tightest.specs.Slack.{slack_of, ReleaseToDeadline, IsTightest, tightest_of}
 use Rattle.tightest.specs.Answer.{TightnessPromise}
 use Rattle.tightest.proofs.Answer.Laws.{found_if, found_checked, list_refused, refused_only}
+use Rattle.tightest.specs.Theorems.{Holds, CutEnd, CutStart}
 pub mod Overload
-
--- a job lies inside
-pub record Holds (J : Jobs) (a b : ℕ) : Type 0 where
-  pub job : ℕ
-  pub known : job < count J
-  pub from : a ≤ release J job
-  pub to : deadline J job ≤ b
-
--- An interval that holds a job can be cut back to one from a release to a deadline with the same jobs inside: where no job has its release or deadline at an
--- end, one slot less holds the same jobs.
-
--- from a to b, cut back to a deadline
-abbrev CutEnd : Jobs → ℕ → ℕ → Type 0
-CutEnd J a b = (j : ℕ) × (j < count J) × (deadline J j ≤ b) × (volume_inside J a (deadline J j) ≡ volume_inside J a b) × Holds J a (deadline J j)
-
--- .. to a release
-abbrev CutStart : Jobs → ℕ → ℕ → Type 0
-CutStart J a b = (i : ℕ) × (i < count J) × (a ≤ release J i) × (volume_inside J (release J i) b ≡ volume_inside J a b) × Holds J (release J i) b
 
 module _ (J : Jobs) (p : Passes J) where
   to_deadline : (a b : ℕ) → Holds J a b → CutEnd J a b

@@ -3,3 +3,4 @@ pub mod Signed
 pub mod Slack
 pub mod Answer
 pub mod Search
+pub mod Theorems

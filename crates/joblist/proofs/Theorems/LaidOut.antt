@@ -23,7 +23,8 @@ use Rattle.joblist.specs.Writing.{spell_check, Writing, written_if, writing, Wri
 use Rattle.joblist.proofs.Laws.RoundTrip.{map_again}
 use Rattle.joblist.proofs.Laws.Input.{read_passed, read_passes}
 use Rattle.joblist.proofs.Laws.Lists.{field_count, list_back, spelling_good}
-use Rattle.joblist.proofs.Theorems.EightMaps.{Row, row_of, field_at, ReadBy, eight_maps}
+use Rattle.joblist.specs.Theorems.EightMaps.{Row, row_of, field_at, ReadBy}
+use Rattle.joblist.proofs.Theorems.EightMaps.{eight_maps}
 use Rattle.joblist.proofs.Theorems.Handed.{read_list}
 use Rattle.joblist.specs.declared.ListHeader.{ListHeader}
 use Rattle.joblist.specs.declared.ListRead.TheVariants.{Read}

@@ -12,6 +12,7 @@ use Rattle.joblist.proofs.Cases.{longest, longest_passes, longest_length}
 use Rattle.joblist.proofs.Laws.Input.{reading_refused}
 use Rattle.joblist.proofs.Laws.Front.{read_cut, read_short}
 use Rattle.joblist.proofs.Theorems.{spelling_read}
+pub mod Read
 
 -- no list that passes the list checks has more than n bytes, and one has n
 pub record LongestSpelling (n : ℕ) : Type 0 where
@@ -34,17 +35,3 @@ longest_list =
 
 pub first_bytes_check : (bytes : List ℕ) (r d p : ℕ) → read_check (take 454 bytes) r d p ≡ read_check bytes r d p
 first_bytes_check bytes r d p = read_cut 454 bytes r d p (omega arith)
-
--- bytes that are read are no more than these
-pub read_all_first : (bytes : List ℕ) (r d p : ℕ) → read_check bytes r d p ≡ Passed → take 454 bytes ≡ bytes
-read_all_first bytes r d p e = take_all 454 bytes (omega (arith, read_short bytes r d p e))
-
--- the answer, and the three lists afterwards
-pub first_bytes_read : (bytes rs ds ps : List ℕ) → reading (take 454 bytes) rs ds ps ≡ reading bytes rs ds ps
-first_bytes_read bytes rs ds ps = go (read_check bytes (length rs) (length ds) (length ps)) refl
-  where
-    go : (c : Checked) → read_check bytes (length rs) (length ds) (length ps) ≡ c → reading (take 454 bytes) rs ds ps ≡ reading bytes rs ds ps
-    go Passed e = ap (λ (b : List ℕ). reading b rs ds ps) (read_all_first bytes (length rs) (length ds) (length ps) e)
-    go (Faulty r) e =
-        reading_refused (take 454 bytes) rs ds ps r (first_bytes_check bytes (length rs) (length ds) (length ps) ∙ e)
-        ∙ sym (reading_refused bytes rs ds ps r e)

@@ -1,5 +1,4 @@
--- 02, card 7: "The slack is below zero exactly when the planner, lent a long enough table, says overload." Of the two functions as they are called: the
--- premises are what `planner::plan` and `tightest::find` promise of one list.
+-- 02, card 7: the slack is below zero exactly where the planner says overloaded, by the words of `specs/Theorems/Overload`.
 use Rattle.std.specs.Prelude.{ℕ, ◌≤◌, ◌≡◌, Bool, List, ◌↔◌, length, pos, ◌<ℤ◌}
 use Rattle.std.proofs.Math.Path.{refl, ap}
 use Rattle.std.proofs.Common.{sym, subst, ◌∙◌, arith}
@@ -27,12 +26,7 @@ use Rattle.tightest.specs.Signed.{at_most_less, negative_if, negative_only}
 use Rattle.tightest.specs.Slack.{slack_of, ReleaseToDeadline, IsTightest, tightest_of}
 use Rattle.tightest.specs.Answer.{TightnessPromise}
 use Rattle.tightest.proofs.Answer.Laws.{found_checked, found_if}
-
--- an interval is told, and its slack is below zero
-pub record BelowZero (report : Tightness) : Type 0 where
-  pub interval : Tight
-  pub found : report ≡ Found interval
-  pub negative : interval.slack <ℤ pos 0
+use Rattle.tightest.specs.Theorems.Overload.{BelowZero}
 
 -- the planner says overload exactly where an interval is shown
 module _ (J : Jobs) (lent : List ℕ) (long : J.horizon ≤ length lent) where

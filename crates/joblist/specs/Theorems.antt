@@ -1,0 +1,2 @@
+pub mod LengthsAsBefore
+pub mod EightMaps
