@@ -45,7 +45,7 @@ extern "C" {
 #define SLEEP_PLAN_TABLE_MAX 4096
 #define SLEEP_PLAN_BLOCK_MIN 16
 
-/* Bytes of stack to have free for a call, on each processor. The deepest call that was measured took 2,152, with the archive for Cortex-M0 and the
+/* Bytes of stack to have free for a call, on each processor. The deepest call that was measured took 2,136, with the archive for Cortex-M0 and the
  * functions of lib/freestanding.c, compiled at -O2; other functions for memory can take some bytes more. */
 #define SLEEP_PLAN_STACK 2304
 
