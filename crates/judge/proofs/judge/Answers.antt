@@ -4,7 +4,8 @@ use native.Mathlib.Omega.{arith}
 use lib.ListN.{length-take}
 use lib.Seq.{length-take-le}
 use Rattle.sched.specs.Jobs.{jobs_from}
-use Rattle.sched.proofs.Checks.Laws.{passes, length_good}
+use Rattle.sched.proofs.Checks.Laws.{length_good}
+use Rattle.sched.proofs.Passes.{passes}
 use Rattle.judge.proofs.Verdict.Laws.{passes_sized}
 use Rattle.judge.proofs.Answers.{list_refused, table_refused, slots_judged}
 use Rattle.judge.proofs.judge.Goals as goal
