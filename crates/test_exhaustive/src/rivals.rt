@@ -1,8 +1,9 @@
 // The least energy over every feasible table, from the list's start.
 ghost use Rattle.std.specs.Prelude.{◌≡◌, ◌+◌, ◌*◌, ◌≤◌, min};
+ghost use Rattle.test_exhaustive.specs.Digits.{digit_of};
 
 use crate::placement::{after, can_run};
-use crate::small::Small;
+use crate::small::{Small, digit};
 
 // This much or more stands for no table at all; every table of eight slots costs less.
 pub const NONE: u32 = 1000000;
@@ -24,6 +25,13 @@ fn paid(q: u16, awake: bool, later_awake: bool) -> u32
     q as u32
 }
 
+// How many units are left of the four jobs.
+fn units(left: u32) -> u32
+    ensures { result ≡ digit_of left 0 + digit_of left 1 + digit_of left 2 + digit_of left 3 }
+{
+    digit(left, 0) + digit(left, 1) + digit(left, 2) + digit(left, 3)
+}
+
 // The least energy of the slots below `slots`, with what is paid behind each of them and the start, over all ways to complete a feasible table
 // whose later part leaves the units `left` and begins with an awake slot or not; NONE or more if there is no way. Slot `slots - 1` holds 254, 255
 // or one of the jobs below `jobs`, every earlier slot 254, 255 or any job. The bound is for safety, so that a slot's cost can be added.
@@ -40,6 +48,10 @@ fn least(l: Small, left: u32, slots: u32, jobs: u32, later_awake: bool) -> u32
     }
     let t = slots - 1;
     if jobs == 0 {
+        // Slot t runs no job: there is no way if the slots before it are fewer than the units.
+        if t < units(left) {
+            return NONE;
+        }
         return lesser(
             paid(l.q, false, later_awake) + least(l, left, t, 4, false),
             1 + least(l, left, t, 4, true),
