@@ -13,7 +13,7 @@ use Rattle.sched.specs.declared.Outcome.TheVariants.{Planned}
 use Rattle.steps.specs.Overload.{volume_if, volume_inside, overloaded, overload_ending_at, shown_overload}
 use Rattle.steps.specs.Outcomes.{Plan, figures_of, early_answer, planned, plan}
 use Rattle.steps.proofs.Outcomes.Laws.{plan_goes_on}
-use Rattle.worked_plans.specs.Starred.{third_steps}
+use Rattle.worked_plans.proofs.Third.{third_steps}
 use Rattle.joblist.proofs.Cases.{third_bytes, third_list, third_passes}
 use Rattle.decimal.specs.Decimal.{digits_in, digits}
 use Rattle.report.specs.Report.{numbers, lines_of, text_of}

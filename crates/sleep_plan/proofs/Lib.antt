@@ -1,3 +1,4 @@
 pub mod Answers
 pub mod Promised
 pub mod Stores
+pub mod TieRule

@@ -1,18 +1,14 @@
 -- 02, card 6, seen from C: for every list of bytes, every table and every block, the number that comes back and the block are those from before the card,
 -- and in the table the same slots work and are awake. What a call gave before the card is defined here, to be compared with.
-use Rattle.std.specs.Prelude.{ℕ, ◌≡◌, refl, Bool, true, false, List, [], ◌∷◌, length, drop, ltb}
-use Rattle.std.proofs.Common.{ap}
+use Rattle.std.specs.Prelude.{ℕ, ◌≡◌, true, false, List, [], ◌∷◌, length, drop, ltb}
 use Rattle.sched.specs.Refusals.{number, place}
 use Rattle.sched.specs.Slots.{awake_of, working_of}
-use Rattle.sched.specs.Answers.{outcome_number, outcome_values}
 use Rattle.sched.specs.declared.Checked.{Checked}
 use Rattle.sched.specs.declared.Checked.TheVariants.{Passed, Refused as Faulty}
-use Rattle.sched.specs.declared.Outcome.{Outcome}
 use Rattle.laws_rivals.specs.TieRule.{plan_before}
-use Rattle.laws_rivals.proofs.TieRule.WholePlan.{ties_as_before}
 use Rattle.joblist.specs.Reading.{list_of}
-use Rattle.sleep_plan.specs.Block.{block_length, answered}
-use Rattle.sleep_plan.specs.Entry.{Answer, answer_of, after_read, bytes_check, call_answer, Entry, in_block, entry}
+use Rattle.sleep_plan.specs.Block.{block_length}
+use Rattle.sleep_plan.specs.Entry.{Answer, answer_of, bytes_check, Entry, in_block}
 
 -- Before the card
 
@@ -36,36 +32,3 @@ pub record CallAsBefore (list : List ℕ) (before after : Entry) : Type 0 where
   pub same_awake : awake_of after.table ≡ awake_of before.table
   pub same_behind : drop (list_of list).horizon after.table ≡ drop (list_of list).horizon before.table
   pub same_unplanned : (after.number ≡ 0 → ⊥) → after.table ≡ before.table
-
-unchanged : (list : List ℕ) (e : Entry) → CallAsBefore list e e
-unchanged list e = record { same_number = refl; same_block = refl; same_working = refl; same_awake = refl; same_behind = refl; same_unplanned = λ _. refl }
-
--- behind the check of the block
-answer_as_before : (c : Checked) (list table block : List ℕ) → CallAsBefore list (in_block (after_read_before c list table) block) (in_block (after_read c list table) block)
-answer_as_before (Faulty r) list table block = unchanged list (in_block (after_read (Faulty r) list table) block)
-answer_as_before Passed list table block =
-    let s = ties_as_before (list_of list) table in
-    record {
-      same_number = ap outcome_number s.same_answer;
-      same_block = ap (λ (o : Outcome). answered (outcome_values o) block) s.same_answer;
-      same_working = s.same_working;
-      same_awake = s.same_awake;
-      same_behind = s.same_behind;
-      same_unplanned = s.same_unplanned;
-    }
-
-pub call_as_before : (list table block : List ℕ) → CallAsBefore list (entry_before list table block) (entry list table block)
-unfolding entry call_answer
-call_as_before list table block = by_length (ltb (length block) block_length)
-  where
-    by_length : (short : Bool) → CallAsBefore list
-        (elim short as (λ _. Entry) [
-          | true ↦ record { number = 17; table = table; block = block }
-          | false ↦ in_block (after_read_before (bytes_check list) list table) block
-        ])
-        (elim short as (λ _. Entry) [
-          | true ↦ record { number = 17; table = table; block = block }
-          | false ↦ in_block (after_read (bytes_check list) list table) block
-        ])
-    by_length true = unchanged list (record { number = 17; table = table; block = block })
-    by_length false = answer_as_before (bytes_check list) list table block

@@ -12,9 +12,9 @@ use lib.Signed.{lt_z, ◌≤ℤ◌, ≤ℤ_refl, clash_ℤ}
 use Rattle.sched.proofs.Bounded.Laws.{by_bool}
 use Rattle.sched.specs.Jobs.{Jobs, count, deadline}
 use Rattle.tightest.specs.declared.Tight.{Tight}
-use Rattle.tightest.specs.Signed.{less_is, less_not, less_at_most, at_most_both}
-use Rattle.tightest.specs.Slack.{slack_of, gauged, ReleaseToDeadline, IsTightest}
-use Rattle.tightest.specs.Slack.Laws.{Gauged, AsGood, as_good_self, as_good_trans, less_good, best_tightest}
+use Rattle.tightest.proofs.Signed.{less_is, less_not, less_at_most, at_most_both}
+use Rattle.tightest.specs.Slack.{slack_of, gauged, ReleaseToDeadline, IsTightest, Gauged, AsGood}
+use Rattle.tightest.proofs.Slack.Laws.{as_good_self, as_good_trans, less_good, best_tightest}
 use Rattle.tightest.specs.Search.{chosen, rather, TightestTo}
 
 not_less : (x y : ℤ) → y ≤ℤ x → lt_z x y ≡ false

@@ -8,3 +8,5 @@ pub mod Answering
 pub mod Answer
 pub mod Cases
 pub mod Theorems
+pub mod Signed
+pub mod Slack

@@ -8,7 +8,7 @@ use lib.Signed.{mag, lt_z}
 use mir.Syntax.{w32}
 use mir.Val.{SFits, to_z, of_z}
 use mir.ValLaws.{to_z-of_z, to_z_pos}
-use Rattle.tightest.specs.Signed.{minus_range}
+use Rattle.tightest.proofs.Signed.{minus_range}
 
 -- a difference of two naturals
 module _ (b c : ℕ) (small : b < 2147483648) (fits : c < 2147483648) where

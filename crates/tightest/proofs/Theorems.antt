@@ -14,7 +14,7 @@ use Rattle.laws_edf.proofs.Overload.Ends.{end_unused, start_unused}
 use Rattle.tightest.specs.declared.Tight.{Tight}
 use Rattle.tightest.specs.declared.Tightness.{Tightness}
 use Rattle.tightest.specs.declared.Tightness.TheVariants.{Found, Refused}
-use Rattle.tightest.specs.Signed.{slack_at_most, at_most_trans}
+use Rattle.tightest.proofs.Signed.{slack_at_most, at_most_trans}
 use Rattle.tightest.specs.Slack.{slack_of, ReleaseToDeadline, IsTightest, tightest_of}
 use Rattle.tightest.specs.Answer.{TightnessPromise}
 use Rattle.tightest.proofs.Answer.Laws.{found_if, found_checked, list_refused, refused_only}

@@ -15,7 +15,7 @@ use Rattle.sched.specs.Checks.{Passes}
 use Rattle.steps.specs.Overload.{volume_if, volume_inside}
 use Rattle.laws_edf.specs.Orders.{Sorted, job_at}
 use Rattle.laws_edf.proofs.Overload.Ends.{volume_if_inside, volume_early, volume_late}
-use Rattle.tightest.specs.Signed.{until_same, until_at_most, until_less}
+use Rattle.tightest.proofs.Signed.{until_same, until_at_most, until_less}
 use Rattle.tightest.specs.Slack.{slack_of, ReleaseToDeadline}
 use Rattle.tightest.specs.Search.{Visits, TightestTo}
 

@@ -5,8 +5,7 @@ use Rattle.sched.specs.Jobs.{Jobs, count}
 use Rattle.orders.specs.Rising.{rising_by, key_of}
 use Rattle.orders.specs.Lists.{ListsOf}
 use Rattle.tightest.specs.declared.Tight.{Tight}
-use Rattle.tightest.specs.Slack.{gauged, ReleaseToDeadline}
-use Rattle.tightest.specs.Slack.Laws.{Gauged, AsGood}
+use Rattle.tightest.specs.Slack.{gauged, ReleaseToDeadline, Gauged, AsGood}
 
 -- the first of two if the test holds, else the second
 abbrev pub chosen : Bool → Tight → Tight → Tight

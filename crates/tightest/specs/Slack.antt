@@ -4,7 +4,6 @@ use Rattle.std.specs.Int.Signed.{lt_z, le_z}
 use Rattle.sched.specs.Jobs.{Jobs, count, release, deadline}
 use Rattle.steps.specs.Overload.{volume_inside}
 use Rattle.tightest.specs.declared.Tight.{Tight}
-pub mod Laws
 
 -- "Its slack is b−a less the volume of the jobs inside, a signed number."
 unfoldable pub slack_of : Jobs → ℕ → ℕ → ℤ
@@ -54,3 +53,14 @@ pub record IsTightest (J : Jobs) (x : Tight) : Type 0 where
   pub least : (a b : ℕ) → ReleaseToDeadline J a b → x.slack ≤ℤ slack_of J a b
   pub least_end : (a b : ℕ) → ReleaseToDeadline J a b → slack_of J a b ≡ x.slack → x.b ≤ b
   pub greatest_start : (a : ℕ) → ReleaseToDeadline J a x.b → slack_of J a x.b ≡ x.slack → a ≤ x.a
+
+-- x is an interval from a release to a deadline, with its slack
+pub record Gauged (J : Jobs) (x : Tight) : Type 0 where
+  pub spans : ReleaseToDeadline J x.a x.b
+  pub slack_is : x.slack ≡ slack_of J x.a x.b
+
+-- y is not reported rather than x
+pub record AsGood (x y : Tight) : Type 0 where
+  pub slack : x.slack ≤ℤ y.slack
+  pub end : y.slack ≡ x.slack → x.b ≤ y.b
+  pub start : y.slack ≡ x.slack → y.b ≡ x.b → y.a ≤ x.a

@@ -24,7 +24,7 @@ use Rattle.steps.specs.Outcomes.{figures_of, planned, early_answer, plan_by, pla
 use Rattle.worked_plans.specs.Worked.{members, skeleton_for, order_for, found, plans, overloads, beaten, Row, Right}
 use Rattle.worked_plans.specs.Worked.Laws.{cheaper_test, all_cheaper, all_right, row_steps}
 
-pub starred : List Row
+unfoldable pub starred : List Row
 starred =
     plans (jobs 12 3 (job 0 4 2 ∷ job 6 10 2 ∷ [])) (4 ∷ 5 ∷ []) (3 ∷ 2 ∷ 6 ∷ 7 ∷ [])
     (255 ∷ 255 ∷ 0 ∷ 0 ∷ 254 ∷ 254 ∷ 1 ∷ 1 ∷ 255 ∷ 255 ∷ 255 ∷ 255 ∷ []) (9 ∷ 6 ∷ 1 ∷ 4 ∷ [])
@@ -53,14 +53,3 @@ unfolding members skeleton_for order_for found plans overloads beaten starred ch
     helps wakeable next_wake woken_in woken wake_all extended earliest urgent going_on fill_by table_of values_from sleep_rule table_from plan_table
     figures_of planned early_answer plan_by plan
 starred_plans = all_right starred refl refl
-
--- the third plan's table and order, for other cases to cite
-third_open : early_answer third 10 ≡ none
-unfolding total any_below sum_below least_from check_from volume_if volume_inside overloaded overload_ending_at shown_overload early_answer
-third_open = refl
-
-pub third_steps : (plan_table third ≡ third_table) × (woken third (least_skeleton third) ≡ 2 ∷ 1 ∷ 0 ∷ 4 ∷ 5 ∷ 8 ∷ [])
-unfolding starred plans
-third_steps =
-    let (table, order) = row_steps third _ (starred_plans _ (later (later (here refl)))).gives third_open in
-    (sym (append-nil (plan_table third)) ∙ table, order)

@@ -11,7 +11,7 @@ use Rattle.steps.specs.Outcomes.{early_answer}
 use Rattle.steps.proofs.Outcomes.Laws.{early_open}
 use Rattle.front.specs.Early.Laws.{ended_some, open_none}
 use Rattle.orders.specs.Fronts.{blank, front_length}
-use Rattle.planner.specs.Promises.Laws.{answered_early, steps_planned}
+use Rattle.planner.proofs.Promises.Laws.{answered_early, steps_planned}
 use Rattle.planner.proofs.plan.Goals as goal
 
 -- an array keeps its 64 places

@@ -15,7 +15,7 @@ use Rattle.tightest.specs.declared.Tight.{Tight}
 use Rattle.tightest.specs.declared.Tightness.{Tightness}
 use Rattle.tightest.specs.declared.Tightness.TheVariants.{Found, Refused}
 use Rattle.tightest.specs.Slack.{tightest_of, IsTightest}
-use Rattle.tightest.specs.Slack.Laws.{tightest_found, tightest_one}
+use Rattle.tightest.proofs.Slack.Laws.{tightest_found, tightest_one}
 use Rattle.tightest.specs.Answer.{no_jobs_check, tightness_check, tells, tightness, tightness_number, tightness_values, TightnessPromise}
 
 pub some_good : (n : ℕ) → no_jobs_check n ≡ Passed → 0 < n

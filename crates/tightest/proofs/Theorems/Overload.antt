@@ -22,7 +22,7 @@ use Rattle.planner.specs.Promises.{PlanPromise}
 use Rattle.tightest.specs.declared.Tight.{Tight}
 use Rattle.tightest.specs.declared.Tightness.{Tightness}
 use Rattle.tightest.specs.declared.Tightness.TheVariants.{Found}
-use Rattle.tightest.specs.Signed.{at_most_less, negative_if, negative_only}
+use Rattle.tightest.proofs.Signed.{at_most_less, negative_if, negative_only}
 use Rattle.tightest.specs.Slack.{slack_of, ReleaseToDeadline, IsTightest, tightest_of}
 use Rattle.tightest.specs.Answer.{TightnessPromise}
 use Rattle.tightest.proofs.Answer.Laws.{found_checked, found_if}

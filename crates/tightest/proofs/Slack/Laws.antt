@@ -10,19 +10,8 @@ use Rattle.sched.proofs.Bounded.Laws.{lt_suc, by_bool, true_not_false, and_true,
 use Rattle.sched.specs.Jobs.{Jobs, count, release, deadline}
 use Rattle.sched.specs.Checks.{Passes}
 use Rattle.tightest.specs.declared.Tight.{Tight}
-use Rattle.tightest.specs.Signed.{less_is, less_not, at_most_is, at_most_not, less_at_most, at_most_trans, at_most_both}
-use Rattle.tightest.specs.Slack.{slack_of, gauged, tighter, try_pair, try_starts, try_ends, tightest_of, ReleaseToDeadline, IsTightest}
-
--- x is an interval from a release to a deadline, with its slack
-pub record Gauged (J : Jobs) (x : Tight) : Type 0 where
-  pub spans : ReleaseToDeadline J x.a x.b
-  pub slack_is : x.slack ≡ slack_of J x.a x.b
-
--- y is not reported rather than x
-pub record AsGood (x y : Tight) : Type 0 where
-  pub slack : x.slack ≤ℤ y.slack
-  pub end : y.slack ≡ x.slack → x.b ≤ y.b
-  pub start : y.slack ≡ x.slack → y.b ≡ x.b → y.a ≤ x.a
+use Rattle.tightest.proofs.Signed.{less_is, less_not, at_most_is, at_most_not, less_at_most, at_most_trans, at_most_both}
+use Rattle.tightest.specs.Slack.{slack_of, gauged, tighter, try_pair, try_starts, try_ends, tightest_of, ReleaseToDeadline, IsTightest, Gauged, AsGood}
 
 pub as_good_self : (x : Tight) → AsGood x x
 as_good_self x = record { slack = ≤ℤ_refl x.slack; end = λ e. omega arith; start = λ e f. omega arith }
