@@ -1,2 +1,3 @@
 pub mod LengthsAsBefore
 pub mod EightMaps
+pub mod LaidOut
