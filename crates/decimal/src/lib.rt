@@ -8,13 +8,7 @@ ghost use Rattle.decimal.specs.Decimal.{digits, PutsDigits};
 pub fn size(x: u64) -> usize
     ensures { result ≡ length (digits x) }
 {
-    let mut left = x;
-    let mut n: usize = 1;
-    while 10 <= left {
-        left = left / 10;
-        n += 1;
-    }
-    n
+    x.max(1).ilog10() as usize + 1
 }
 
 // The digits of a number, from a place on; the answer is the place behind them. The last digit is found first, so they are stored from behind.
@@ -23,13 +17,10 @@ pub fn put(x: u64, out: &mut [u8], at: usize) -> usize
     ensures { PutsDigits x at out.old result out.new }
 {
     let end = at + size(x);
-    let mut place = end;
     let mut left = x;
-    while 10 <= left {
-        place -= 1;
-        out[place] = (48 + left % 10) as u8;
-        left = left / 10;
+    for place in (at..end).rev() {
+        out[place] = b'0' + (left % 10) as u8;
+        left /= 10;
     }
-    out[at] = (48 + left) as u8;
     end
 }

@@ -1,4 +1,5 @@
 -- The fronts of the two arrays, lent to be filled and read again.
+use Rattle.std.specs.Prelude.{Option}
 use Prim.Native.Nat.{ℕ, ◌≤◌}
 use mathlib.Core.Path.{◌≡◌, refl, sym, subst}
 use mathlib.Core.Bool.{Bool, false}
@@ -11,15 +12,16 @@ use Rattle.orders.specs.Fronts.{front_length, front_filled}
 use Rattle.orders.specs.Placing.{Places}
 use Rattle.orders.specs.Lists.{ListsOf}
 use Rattle.step1_overload.specs.Search.{Asked, Answers}
-use Rattle.step1_overload.specs.declared.Shown.{Shown}
-use Rattle.front.specs.Early.{Room, AllPass, Found}
+use Rattle.front.specs.Early.{Room, AllPass, InFront, Found}
+use Rattle.sched.specs.declared.Interval.{Interval}
+use Rattle.orders.specs.declared.ordered_jobs.OrderedJobs.{OrderedJobs}
 
 module _ {h : ℕ} {rs ds ps : List ℕ} (p : AllPass h rs ds ps) where
   pub lists : (q : ℕ) (start : Bool) → ListsOf (jobs_from h q start rs ds ps) rs ds ps
   lists q start = record { passes = p q start; releases_are = refl; deadlines_are = refl; volumes_are = refl }
 
   module _ {ranks arrivals : List ℕ} (room : Room ranks arrivals) where
-    few : length rs ≤ 64
+    pub few : length rs ≤ 64
     few = (p 0 false).few
 
     pub ranks_fit : length rs ≤ length ranks
@@ -45,8 +47,8 @@ module _ {h : ℕ} {rs ds ps : List ℕ} (p : AllPass h rs ds ps) where
           (sym (front_filled (length rs) arrivals arrivals' arrivals_fit b))
           (subst (λ (l : List ℕ). Orders rs ds l arrivals') (sym (front_filled (length rs) ranks ranks' ranks_fit a)) o)
 
-      pub asked : Asked rs ds ps (take (length rs) (ranks' ++ drop (length rs) ranks)) (take (length rs) (arrivals' ++ drop (length rs) arrivals))
-      asked = record { J = jobs_from h 0 false rs ds ps; lists = lists 0 false; orders = in_front }
+  pub asked : {jobs : OrderedJobs} → jobs.releases.now ≡ rs → jobs.deadlines.now ≡ ds → Asked jobs ps
+  asked r d = record { J = jobs_from h 0 false rs ds ps; lists = record { passes = p 0 false; releases_are = sym r; deadlines_are = sym d; volumes_are = refl } }
 
-      pub found : {answer : Shown} → Answers h rs ds ps answer → Found h rs ds ps answer (ranks' ++ drop (length rs) ranks) (arrivals' ++ drop (length rs) arrivals)
-      found answers = record { shown = λ q start. (answers (jobs_from h q start rs ds ps) (lists q start) refl).same; orders = in_front }
+  pub found : {ranks arrivals : List ℕ} {answer : Option Interval} → Answers h rs ds ps answer → InFront rs ds ranks arrivals → Found h rs ds ps answer ranks arrivals
+  found answers o = record { shown = λ q start. (answers (jobs_from h q start rs ds ps) (lists q start) refl).same; orders = o }

@@ -1,17 +1,15 @@
 -- 01, "Plans worked by hand": the bytes of the third list; a longest list; and lists with two faults. Closed cases, so that an edit of a
 -- definition is refused here.
-use Rattle.std.specs.Prelude.{ℕ, ◌≡◌, refl, List, [], ◌∷◌, ◌++◌, length, replicate}
+use Rattle.std.specs.Prelude.{ℕ, ◌≡◌, refl, List, [], ◌∷◌, ◌++◌, length, replicate, Err, Ok}
 use Rattle.sched.specs.Jobs.{Jobs, jobs_of, count}
 use Rattle.sched.specs.Checks.{Passes, check_from}
 use Rattle.sched.proofs.Checks.Laws.{passed_passes}
 use Rattle.sched.proofs.Cases.{third}
 use Rattle.sched.specs.declared.Refusal.TheVariants.{Redundant, NoVolume, LeftOver}
-use Rattle.sched.specs.declared.Checked.TheVariants.{Passed, Refused}
 use Rattle.list_parts.specs.Layout.{entry_bytes}
 use Rattle.list_parts.specs.Entries.{map_check, redundancy_check, entry_check, entries_check, column}
 use Rattle.joblist.specs.Bytes.{entries_bytes, spelling}
 use Rattle.joblist.specs.Reading.{read_check, list_of, reading}
-use Rattle.joblist.specs.declared.ListRead.TheVariants.{Read}
 
 -- "The third case in hex"
 abbrev pub third_bytes : List ℕ
@@ -27,14 +25,14 @@ unfolding column
 third_list = refl
 
 -- into lists of 64, as the program and the C entry lend them
-pub third_passes : read_check third_bytes 64 64 64 ≡ Passed
+pub third_passes : read_check third_bytes 64 64 64 ≡ Ok tt
 unfolding map_check redundancy_check entry_check entries_check
 third_passes = refl
 
 -- into lent lists with an entry more than it has jobs
 pub third_read : reading third_bytes (replicate 4 9) (replicate 4 9) (replicate 4 9) ≡
     record {
-      answer = Read (record { h = third.horizon; q = third.wake; count = count third });
+      answer = Ok (record { h = third.horizon; q = third.wake; count = count third });
       releases = third.releases ++ (9 ∷ []);
       deadlines = third.deadlines ++ (9 ∷ []);
       volumes = third.volumes ++ (9 ∷ []);
@@ -55,16 +53,16 @@ unfolding spelling entries_bytes entry_bytes
 longest_length = refl
 
 -- a byte behind it is seen, so 453 bytes of an input are too few to tell
-pub byte_left_over : read_check (spelling longest ++ (0 ∷ [])) 64 64 64 ≡ Refused (LeftOver 453)
+pub byte_left_over : read_check (spelling longest ++ (0 ∷ [])) 64 64 64 ≡ Err (LeftOver 453)
 unfolding spelling entries_bytes entry_bytes map_check redundancy_check entry_check entries_check
 byte_left_over = refl
 
 -- job 0 is (5, 11, 1), and its volume stands: 14 comes before 25
-pub field_before_job : read_check (10 ∷ 0 ∷ 0 ∷ 0 ∷ 1 ∷ 7 ∷ 5 ∷ 0 ∷ 11 ∷ 0 ∷ 1 ∷ 0 ∷ []) 64 64 64 ≡ Refused (Redundant 10)
+pub field_before_job : read_check (10 ∷ 0 ∷ 0 ∷ 0 ∷ 1 ∷ 7 ∷ 5 ∷ 0 ∷ 11 ∷ 0 ∷ 1 ∷ 0 ∷ []) 64 64 64 ≡ Err (Redundant 10)
 unfolding map_check redundancy_check entry_check entries_check
 field_before_job = refl
 
 -- job 0 has volume 0, and the map byte of job 1 an unknown bit: a fault of an earlier job comes first
-pub earlier_job_first : read_check (10 ∷ 0 ∷ 0 ∷ 0 ∷ 2 ∷ 4 ∷ 0 ∷ 0 ∷ 8 ∷ []) 64 64 64 ≡ Refused (NoVolume 0)
+pub earlier_job_first : read_check (10 ∷ 0 ∷ 0 ∷ 0 ∷ 2 ∷ 4 ∷ 0 ∷ 0 ∷ 8 ∷ []) 64 64 64 ≡ Err (NoVolume 0)
 unfolding map_check redundancy_check entry_check entries_check
 earlier_job_first = refl

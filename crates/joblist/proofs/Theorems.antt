@@ -1,28 +1,24 @@
 -- 01, "Job list bytes": "each list has one spelling". The writer's bytes are read back to the same list, and bytes that are read are just
 -- those that the writer gives for what was read. `reading` and `writing` are what `read` and `write` promise, so all of it holds of the code.
-use Rattle.std.specs.Prelude.{ℕ, ◌≤◌, ◌≡◌, refl, false, List, ◌++◌, ◌↔◌, length, take, drop}
+use Rattle.std.specs.Prelude.{ℕ, ◌≤◌, ◌≡◌, refl, false, List, ◌++◌, ◌↔◌, length, take, drop, Err, Ok}
 use Rattle.std.proofs.Common.{ap, sym, subst, ◌∙◌, take_at}
 use Rattle.sched.specs.Jobs.{Jobs, jobs_of, count}
 use Rattle.sched.specs.Checks.{Passes, length_check, check_of}
 use Rattle.sched.proofs.Checks.Laws.{then_passes, length_passes, passes_passed}
 use Rattle.sched.specs.TwoBytes.{AreBytes}
-use Rattle.sched.specs.declared.Checked.{Checked}
-use Rattle.sched.specs.declared.Checked.TheVariants.{Passed, Refused as Faulty}
 use Rattle.sched.specs.declared.Refusal.{Refusal}
-use Rattle.sched.specs.Refusals.{place}
+use Rattle.sched.specs.Refusals.{place, Checked}
 use Rattle.sched.proofs.Refusals.Laws.{refusal_number}
 use Rattle.list_parts.specs.Header.{header_count}
 use Rattle.list_parts.specs.Entries.{release_of}
 use Rattle.joblist.specs.Bytes.{spelling}
 use Rattle.joblist.specs.Reading.{LentRoom, read_check, list_of, Reading, reading, read_number}
 use Rattle.joblist.specs.Writing.{Writing, spell_check, written_if, writing}
-use Rattle.joblist.specs.declared.ListWritten.TheVariants.{Written}
 use Rattle.joblist.proofs.Laws.Input.{read_passed, read_passes, reading_accepted, reading_refused}
 use Rattle.joblist.proofs.Theorems.Handed.{read_list}
 use Rattle.joblist.proofs.Laws.Places.{PlaceWithin, read_within}
 use Rattle.joblist.proofs.Laws.Lists.{list_back, spelling_good, count_back, field_count, input_again, list_passes}
 use Rattle.joblist.specs.declared.ListHeader.{ListHeader}
-use Rattle.joblist.specs.declared.ListRead.TheVariants.{Read}
 pub mod Handed
 pub mod Longest
 pub mod FaultyField
@@ -36,7 +32,7 @@ pub mod LengthsAsBefore
 abbrev pub hands_over : Jobs → List ℕ → List ℕ → List ℕ → Reading
 hands_over J rs ds ps =
     record {
-      answer = Read (record { h = J.horizon; q = J.wake; count = count J });
+      answer = Ok (record { h = J.horizon; q = J.wake; count = count J });
       releases = J.releases ++ drop (count J) rs;
       deadlines = J.deadlines ++ drop (count J) ds;
       volumes = J.volumes ++ drop (count J) ps;
@@ -59,14 +55,14 @@ read_after_write J rs ds ps asleep g room =
     over : Jobs → ℕ → Reading
     over K n =
         record {
-          answer = Read (record { h = K.horizon; q = K.wake; count = n });
+          answer = Ok (record { h = K.horizon; q = K.wake; count = n });
           releases = K.releases ++ drop n rs;
           deadlines = K.deadlines ++ drop n ds;
           volumes = K.volumes ++ drop n ps;
         }
 
 -- 2. Bytes that are read without refusal are the bytes that are written for what was read, and that list passes the list checks.
-pub write_after_read : (bytes rs ds ps : List ℕ) (list : ListHeader) → AreBytes bytes → (reading bytes rs ds ps).answer ≡ Read list →
+pub write_after_read : (bytes rs ds ps : List ℕ) (list : ListHeader) → AreBytes bytes → (reading bytes rs ds ps).answer ≡ Ok list →
     (bytes ≡ spelling (handed list (reading bytes rs ds ps))) × Passes (handed list (reading bytes rs ds ps))
 write_after_read bytes rs ds ps list small e =
     let x = reading bytes rs ds ps in
@@ -80,7 +76,7 @@ write_after_read bytes rs ds ps list small e =
 
 -- 3. Each list has one spelling: bytes that are read to the same header and jobs are equal.
 pub one_spelling : (bytes bytes' rs ds ps rs' ds' ps' : List ℕ) (list list' : ListHeader) → AreBytes bytes → AreBytes bytes' →
-    (reading bytes rs ds ps).answer ≡ Read list → (reading bytes' rs' ds' ps').answer ≡ Read list' →
+    (reading bytes rs ds ps).answer ≡ Ok list → (reading bytes' rs' ds' ps').answer ≡ Ok list' →
     handed list (reading bytes rs ds ps) ≡ handed list' (reading bytes' rs' ds' ps') → bytes ≡ bytes'
 one_spelling bytes bytes' rs ds ps rs' ds' ps' list list' small small' e e' same =
     (write_after_read bytes rs ds ps list small e).0 ∙ ap spelling same ∙ sym (write_after_read bytes' rs' ds' ps' list' small' e').0
@@ -88,18 +84,18 @@ one_spelling bytes bytes' rs ds ps rs' ds' ps' list list' small small' e e' same
 -- 4. What a caller of `read` knows of the bytes that it lent; what it knows of the answer and the three lists stands in `Handed`.
 
 -- the spelling of a list that passes the list checks is read, to that list
-pub spelling_read : (J : Jobs) (r d p : ℕ) → Passes J → LentRoom (count J) r d p → read_check (spelling J) r d p ≡ Passed
+pub spelling_read : (J : Jobs) (r d p : ℕ) → Passes J → LentRoom (count J) r d p → read_check (spelling J) r d p ≡ Ok tt
 spelling_read J r d p g room = read_passes (spelling J) r d p (spelling_good J r d p g room)
 
 pub spelling_list : (J : Jobs) → J.start ≡ false → Passes J → list_of (spelling J) ≡ J
 spelling_list = list_back
 
 -- bytes that are read stand for a list that passes the list checks
-pub read_list_passes : (bytes : List ℕ) (r d p : ℕ) → AreBytes bytes → read_check bytes r d p ≡ Passed → Passes (list_of bytes)
+pub read_list_passes : (bytes : List ℕ) (r d p : ℕ) → AreBytes bytes → read_check bytes r d p ≡ Ok tt → Passes (list_of bytes)
 read_list_passes bytes r d p small e = list_passes bytes r d p small (read_passed bytes r d p e)
 
 -- the place of every refusal is small: no list has more than 453 bytes, and what follows them is told by its offset
-pub place_small : (bytes : List ℕ) (r d p : ℕ) (x : Refusal) → read_check bytes r d p ≡ Faulty x → place x ≤ 453
+pub place_small : (bytes : List ℕ) (r d p : ℕ) (x : Refusal) → read_check bytes r d p ≡ Err x → place x ≤ 453
 place_small bytes r d p x e = subst (PlaceWithin 453) e (read_within bytes r d p)
 
 -- 5. "Given as bytes, it passes if the bytes are the one spelling of such a list": the reader takes bytes exactly where they spell a list that
@@ -126,9 +122,9 @@ read_iff_spelled bytes rs ds ps small = (λ z. spells z (read_check bytes r d p)
 
     spells : read_number (reading bytes rs ds ps).answer ≡ 0 → (c : Checked) → read_check bytes r d p ≡ c →
         (J : Jobs) × (SpellsOnly bytes J × LentRoom (count J) r d p)
-    spells z (Faulty x) e =
+    spells z (Err x) e =
         absurd (refusal_number x (sym (ap (λ (y : Reading). read_number y.answer) (reading_refused bytes rs ds ps x e)) ∙ z))
-    spells z Passed e =
+    spells z (Ok tt) e =
         let g = read_passed bytes r d p e in (
           list_of bytes,
           (
@@ -149,13 +145,13 @@ read_iff_spelled bytes rs ds ps small = (λ z. spells z (read_check bytes r d p)
 
 -- The same of the writer itself, with a buffer that is long enough
 
-spell_passes : (J : Jobs) (size : ℕ) → Passes J → length (spelling J) ≤ size → spell_check J size ≡ Passed
+spell_passes : (J : Jobs) (size : ℕ) → Passes J → length (spelling J) ≤ size → spell_check J size ≡ Ok tt
 spell_passes J size p m =
     then_passes (check_of J) (length_check size (length (spelling J))) (passes_passed J p)
     ∙ length_passes size (length (spelling J)) m
 
 pub written : (J : Jobs) (out : List ℕ) → Passes J → length (spelling J) ≤ length out →
-    writing J out ≡ record { answer = Written (length (spelling J)); out = spelling J ++ drop (length (spelling J)) out }
+    writing J out ≡ record { answer = Ok (length (spelling J)); out = spelling J ++ drop (length (spelling J)) out }
 unfolding writing
 written J out p m = ap (λ (c : Checked). written_if c J out) (spell_passes J (length out) p m)
 
@@ -168,13 +164,13 @@ written_is_read J out rs ds ps asleep p m room =
     ∙ read_after_write J rs ds ps asleep p room
 
 -- what was read is written to the same bytes
-pub read_is_written : (bytes rs ds ps out : List ℕ) (list : ListHeader) → AreBytes bytes → (reading bytes rs ds ps).answer ≡ Read list →
+pub read_is_written : (bytes rs ds ps out : List ℕ) (list : ListHeader) → AreBytes bytes → (reading bytes rs ds ps).answer ≡ Ok list →
     length bytes ≤ length out →
-    writing (handed list (reading bytes rs ds ps)) out ≡ record { answer = Written (length bytes); out = bytes ++ drop (length bytes) out }
+    writing (handed list (reading bytes rs ds ps)) out ≡ record { answer = Ok (length bytes); out = bytes ++ drop (length bytes) out }
 read_is_written bytes rs ds ps out list small e m =
     let w = write_after_read bytes rs ds ps list small e in
     written (handed list (reading bytes rs ds ps)) out w.1 (subst (λ (b : List ℕ). length b ≤ length out) w.0 m)
     ∙ ap (λ (b : List ℕ). accepts b) (sym w.0)
   where
     accepts : List ℕ → Writing
-    accepts b = record { answer = Written (length b); out = b ++ drop (length b) out }
+    accepts b = record { answer = Ok (length b); out = b ++ drop (length b) out }

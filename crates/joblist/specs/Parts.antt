@@ -1,13 +1,11 @@
 -- What the private functions of the reader and the writer ask and promise, part by part.
-use Rattle.std.specs.Prelude.{ℕ, ◌+◌, ◌≤◌, ◌≡◌, List, ◌++◌, length, take, drop}
+use Rattle.std.specs.Prelude.{ℕ, ◌≤◌, ◌≡◌, List, ◌++◌, length, take, drop, Err, Ok}
 use Rattle.sched.specs.Checks.{and_then, job_check}
-use Rattle.sched.specs.declared.Checked.{Checked}
-use Rattle.sched.specs.declared.Checked.TheVariants.{Passed, Refused as Faulty}
 use Rattle.list_parts.specs.Header.{header_length, header_horizon, header_wake, header_count, header_check}
 use Rattle.list_parts.specs.Entries.{entry_size, release_of, deadline_of, volume_of, column}
-use Rattle.joblist.specs.Bytes.{entries_bytes}
 use Rattle.joblist.specs.Reading.{lent_check, behind_header}
 use Rattle.joblist.specs.declared.ListHeader.{ListHeader}
+use Rattle.sched.specs.Refusals.{Checked}
 
 -- the header of a list's bytes
 pub record HeaderOf (bytes : List ℕ) (list : ListHeader) : Type 0 where
@@ -30,14 +28,14 @@ pub record Loadable (count : ℕ) (bytes rs ds ps : List ℕ) : Type 0 where
 -- the answer of the walk, and the fields at the front of three lists if it passes
 pub record Walked (h count : ℕ) (bytes : List ℕ) (answer : Checked) (rs ds ps : List ℕ) : Type 0 where
   pub same : answer ≡ behind_header job_check h count bytes
-  pub releases : answer ≡ Passed → take count rs ≡ column entry_size release_of count (drop header_length bytes)
-  pub deadlines : answer ≡ Passed → take count ds ≡ column entry_size (deadline_of h) count (drop header_length bytes)
-  pub volumes : answer ≡ Passed → take count ps ≡ column entry_size volume_of count (drop header_length bytes)
+  pub releases : answer ≡ Ok tt → take count rs ≡ column entry_size release_of count (drop header_length bytes)
+  pub deadlines : answer ≡ Ok tt → take count ds ≡ column entry_size (deadline_of h) count (drop header_length bytes)
+  pub volumes : answer ≡ Ok tt → take count ps ≡ column entry_size volume_of count (drop header_length bytes)
 
 -- a lent list afterwards: one field of each job, then what stood behind, or all as it was
 abbrev pub filled_if : Checked → (List ℕ → ℕ) → ℕ → List ℕ → List ℕ → List ℕ
-filled_if Passed field count bytes lent = column entry_size field count (drop header_length bytes) ++ drop count lent
-filled_if (Faulty r) field count bytes lent = lent
+filled_if (Ok tt) field count bytes lent = column entry_size field count (drop header_length bytes) ++ drop count lent
+filled_if (Err r) field count bytes lent = lent
 
 pub record Filled (h count : ℕ) (bytes rs ds ps : List ℕ) (answer : Checked) (rs' ds' ps' : List ℕ) : Type 0 where
   pub same : answer ≡ behind_header job_check h count bytes
@@ -50,8 +48,3 @@ pub record EqualLists (rs ds ps : List ℕ) : Type 0 where
   pub deadlines : length ds ≡ length rs
   pub volumes : length ps ≡ length rs
   pub few : length rs ≤ 64
-
--- three such lists, and a buffer that their bytes fit
-pub record Puttable (h : ℕ) (rs ds ps out : List ℕ) : Type 0 where
-  pub lists : EqualLists rs ds ps
-  pub room : header_length + length (entries_bytes h rs ds ps) ≤ length out

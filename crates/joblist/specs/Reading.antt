@@ -1,14 +1,12 @@
 -- 01, "Job list bytes" and "Refused, and where": the reader. Its answer and the three lent lists afterwards, for every input.
-use Rattle.std.specs.Prelude.{ℕ, ◌≤◌, ◌≡◌, List, [], ◌∷◌, ◌++◌, length, drop}
+use Rattle.std.specs.Prelude.{ℕ, ◌≤◌, ◌≡◌, List, [], ◌∷◌, ◌++◌, length, drop, Err, Ok, Result}
 use Rattle.sched.specs.Jobs.{Jobs}
-use Rattle.sched.specs.Refusals.{number, place}
+use Rattle.sched.specs.Refusals.{number, place, Checked}
 use Rattle.sched.specs.Checks.{JobCheck, and_then, length_check, job_check}
-use Rattle.sched.specs.declared.Checked.{Checked}
-use Rattle.sched.specs.declared.Checked.TheVariants.{Passed, Refused as Faulty}
 use Rattle.list_parts.specs.Header.{header_length, header_horizon, header_wake, header_count, header_start, header_check}
 use Rattle.list_parts.specs.Entries.{release_of, deadline_of, volume_of, entry_size, entry_check, entries_check, column}
-use Rattle.joblist.specs.declared.ListRead.{ListRead}
-use Rattle.joblist.specs.declared.ListRead.TheVariants.{Read, Refused}
+use Rattle.sched.specs.declared.Refusal.{Refusal}
+use Rattle.joblist.specs.declared.ListHeader.{ListHeader}
 
 -- The checks of the whole input
 
@@ -50,7 +48,7 @@ list_of bytes =
 
 -- the reader's answer, and the three lent lists afterwards
 pub record Reading : Type 0 where
-  pub answer : ListRead
+  pub answer : Result ListHeader Refusal
   pub releases : List ℕ
   pub deadlines : List ℕ
   pub volumes : List ℕ
@@ -59,7 +57,7 @@ pub record Reading : Type 0 where
 abbrev pub accepted : List ℕ → List ℕ → List ℕ → List ℕ → Reading
 accepted bytes rs ds ps =
     record {
-      answer = Read (record { h = header_horizon bytes; q = header_wake bytes; count = header_count bytes });
+      answer = Ok (record { h = header_horizon bytes; q = header_wake bytes; count = header_count bytes });
       releases = (list_of bytes).releases ++ drop (header_count bytes) rs;
       deadlines = (list_of bytes).deadlines ++ drop (header_count bytes) ds;
       volumes = (list_of bytes).volumes ++ drop (header_count bytes) ps;
@@ -67,23 +65,23 @@ accepted bytes rs ds ps =
 
 -- "Every refusal leaves all lent memory unchanged"
 abbrev pub read_if : Checked → List ℕ → List ℕ → List ℕ → List ℕ → Reading
-read_if Passed bytes rs ds ps = accepted bytes rs ds ps
-read_if (Faulty r) bytes rs ds ps = record { answer = Refused r; releases = rs; deadlines = ds; volumes = ps }
+read_if (Ok tt) bytes rs ds ps = accepted bytes rs ds ps
+read_if (Err r) bytes rs ds ps = record { answer = Err r; releases = rs; deadlines = ds; volumes = ps }
 
 unfoldable pub reading : List ℕ → List ℕ → List ℕ → List ℕ → Reading
 reading bytes rs ds ps = read_if (read_check bytes (length rs) (length ds) (length ps)) bytes rs ds ps
 
 -- the number and values of an answer: a refusal's are 01's, its number with its place; 0 with H, q and the count for a list that was read is ours
-abbrev pub read_number : ListRead → ℕ
-read_number (Read list) = 0
-read_number (Refused r) = number r
+abbrev pub read_number : Result ListHeader Refusal → ℕ
+read_number (Ok list) = 0
+read_number (Err r) = number r
 
-abbrev pub read_values : ListRead → List ℕ
-read_values (Read list) = list.h ∷ list.q ∷ list.count ∷ []
-read_values (Refused r) = place r ∷ []
+abbrev pub read_values : Result ListHeader Refusal → List ℕ
+read_values (Ok list) = list.h ∷ list.q ∷ list.count ∷ []
+read_values (Err r) = place r ∷ []
 
 -- what `read` promises of its answer and of the three lent lists as it returns
-pub record ReadPromise (bytes rs ds ps : List ℕ) (answer : ListRead) (rs' ds' ps' : List ℕ) : Type 0 where
+pub record ReadPromise (bytes rs ds ps : List ℕ) (answer : Result ListHeader Refusal) (rs' ds' ps' : List ℕ) : Type 0 where
   pub same : answer ≡ (reading bytes rs ds ps).answer
   pub number : read_number answer ≡ read_number (reading bytes rs ds ps).answer
   pub values : read_values answer ≡ read_values (reading bytes rs ds ps).answer

@@ -5,7 +5,7 @@ ghost use Rattle.sched.specs.Jobs.{jobs_of};
 ghost use Rattle.joblist.specs.Reading.{ReadPromise};
 ghost use Rattle.joblist.specs.Writing.{WritePromise};
 
-use sched::{Checked, Refusal};
+use sched::Refusal;
 
 mod reader; // reader.rt: the checks of a list's bytes, and its jobs
 mod writer; // writer.rt: the length of a list's bytes, and the bytes
@@ -18,39 +18,20 @@ pub struct ListHeader {
     pub count: usize,
 }
 
-#[derive(Drop)]
-pub enum ListRead {
-    Read(ListHeader),
-    Refused(Refusal),
-}
-
-// The number of bytes written, or why none is.
-#[derive(Drop)]
-pub enum ListWritten {
-    Written(usize),
-    Refused(Refusal),
-}
-
 // Reads a list. Its jobs go to the first `count` entries of the three lists; a refusal leaves all three as they are.
 pub fn read(
     bytes: &[u8],
     releases: &mut [u16],
     deadlines: &mut [u16],
     volumes: &mut [u16],
-) -> ListRead
+) -> Result<ListHeader, Refusal>
     ensures { ReadPromise bytes.now releases.old deadlines.old volumes.old result
         releases.new deadlines.new volumes.new }
 {
-    match reader::check(bytes, releases.len(), deadlines.len(), volumes.len()) {
-        Checked::Passed => {
-            let list = reader::header(bytes);
-            match reader::fill(list.h, list.count, bytes, releases, deadlines, volumes) {
-                Checked::Passed => ListRead::Read(list),
-                Checked::Refused(r) => ListRead::Refused(r),
-            }
-        }
-        Checked::Refused(r) => ListRead::Refused(r),
-    }
+    reader::check(bytes, releases.len(), deadlines.len(), volumes.len())?;
+    let list = reader::header(bytes);
+    reader::fill(list.h, list.count, bytes, releases, deadlines, volumes)?;
+    Ok(list)
 }
 
 // Writes a list to the first bytes of `out`; a refusal leaves `out` as it is.
@@ -61,21 +42,19 @@ pub fn write(
     deadlines: &[u16],
     volumes: &[u16],
     out: &mut [u8],
-) -> ListWritten
+) -> Result<usize, Refusal>
     ensures { WritePromise (jobs_of h q releases.now deadlines.now volumes.now)
         out.old result out.new }
 {
-    match sched::check_list(h, releases, deadlines, volumes) {
-        Checked::Passed => {
-            let size = writer::size(h, releases, deadlines, volumes);
-            match sched::check_length(out.len(), size) {
-                Checked::Passed => {
-                    writer::put(h, q, releases, deadlines, volumes, out);
-                    ListWritten::Written(size)
-                }
-                Checked::Refused(r) => ListWritten::Refused(r),
-            }
-        }
-        Checked::Refused(r) => ListWritten::Refused(r),
-    }
+    sched::check_list(h, releases, deadlines, volumes)?;
+    let list = writer::Lists {
+        h,
+        releases,
+        deadlines,
+        volumes,
+    };
+    let size = list.size();
+    sched::check_length(out.len(), size)?;
+    list.put(q, out);
+    Ok(size)
 }

@@ -5,8 +5,7 @@ ghost use Rattle.joblist.specs.Reading.{lent_check};
 ghost use Rattle.joblist.specs.Parts.{HeaderOf, front_check, Loadable, Walked, Filled};
 
 use super::ListHeader;
-use list_parts::entry::Entry;
-use sched::{Checked, Refusal};
+use sched::Refusal;
 
 // The header of bytes that hold one.
 pub fn header(bytes: &[u8]) -> ListHeader
@@ -22,29 +21,26 @@ pub fn header(bytes: &[u8]) -> ListHeader
 }
 
 // The three lent lists hold `count` jobs.
-fn check_lent(count: usize, releases: usize, deadlines: usize, volumes: usize) -> Checked
+fn check_lent(
+    count: usize,
+    releases: usize,
+    deadlines: usize,
+    volumes: usize,
+) -> Result<(), Refusal>
     ensures { result ≡ lent_check count releases deadlines volumes }
 {
-    match sched::check_length(releases, count) {
-        Checked::Passed => match sched::check_length(deadlines, count) {
-            Checked::Passed => sched::check_length(volumes, count),
-            Checked::Refused(r) => Checked::Refused(r),
-        },
-        Checked::Refused(r) => Checked::Refused(r),
-    }
+    sched::check_length(releases, count)?;
+    sched::check_length(deadlines, count)?;
+    sched::check_length(volumes, count)
 }
 
 // The checks before the entries, given the lengths of the three lent lists.
-pub fn check(bytes: &[u8], releases: usize, deadlines: usize, volumes: usize) -> Checked
+pub fn check(bytes: &[u8], releases: usize, deadlines: usize, volumes: usize) -> Result<(), Refusal>
     ensures { result ≡ front_check bytes.now releases deadlines volumes }
 {
-    match list_parts::header::check(bytes) {
-        Checked::Passed => {
-            let list = header(bytes);
-            check_lent(list.count, releases, deadlines, volumes)
-        }
-        Checked::Refused(r) => Checked::Refused(r),
-    }
+    list_parts::header::check(bytes)?;
+    let list = header(bytes);
+    check_lent(list.count, releases, deadlines, volumes)
 }
 
 // The one walk over the entries: each is checked and its fields are put into the three lists, and nothing follows the last.
@@ -55,32 +51,23 @@ fn walk(
     releases: &mut [u16],
     deadlines: &mut [u16],
     volumes: &mut [u16],
-) -> Checked
+) -> Result<(), Refusal>
     requires { Loadable count bytes.now releases.old deadlines.old volumes.old }
     ensures { Walked h count bytes.now result releases.new deadlines.new volumes.new }
 {
     let total = bytes.len();
     let mut at = 5;
-    let mut job = 0;
-    while job < count {
-        let rest = &bytes[at..];
-        match list_parts::entry::read(h, total, job, at, rest) {
-            Entry::Read(f) => {
-                releases[job] = f.release;
-                deadlines[job] = f.deadline;
-                volumes[job] = f.volume;
-                at += f.size;
-                job += 1;
-            }
-            Entry::Refused(r) => {
-                return Checked::Refused(r);
-            }
-        }
+    for job in 0..count {
+        let f = list_parts::entry::read(h, total, job, at, &bytes[at..])?;
+        releases[job] = f.release;
+        deadlines[job] = f.deadline;
+        volumes[job] = f.volume;
+        at += f.size;
     }
     if at < total {
-        return Checked::Refused(Refusal::LeftOver(at));
+        return Err(Refusal::LeftOver(at));
     }
-    Checked::Passed
+    Ok(())
 }
 
 // Reads the entries behind the header into the three lists. They are read to arrays first, so that a refusal leaves the lists as they are.
@@ -91,7 +78,7 @@ pub fn fill(
     releases: &mut [u16],
     deadlines: &mut [u16],
     volumes: &mut [u16],
-) -> Checked
+) -> Result<(), Refusal>
     requires { Loadable count bytes.now releases.old deadlines.old volumes.old }
     ensures { Filled h count bytes.now releases.old deadlines.old volumes.old result
         releases.new deadlines.new volumes.new }
@@ -99,16 +86,9 @@ pub fn fill(
     let mut a = [0u16; 64];
     let mut b = [0u16; 64];
     let mut c = [0u16; 64];
-    let first: &mut [u16] = &mut a;
-    let second: &mut [u16] = &mut b;
-    let third: &mut [u16] = &mut c;
-    match walk(h, count, bytes, first, second, third) {
-        Checked::Passed => {
-            sched::copy(count, first, releases);
-            sched::copy(count, second, deadlines);
-            sched::copy(count, third, volumes);
-            Checked::Passed
-        }
-        Checked::Refused(r) => Checked::Refused(r),
-    }
+    walk(h, count, bytes, &mut a, &mut b, &mut c)?;
+    sched::copy(count, &a, releases);
+    sched::copy(count, &b, deadlines);
+    sched::copy(count, &c, volumes);
+    Ok(())
 }

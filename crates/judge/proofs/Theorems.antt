@@ -1,7 +1,7 @@
 -- What the judge is worth. For a list that passes the list checks and a table of at least H bytes: it accepts exactly the tables that are
 -- feasible in their first H bytes, and tells their energy, awake slots and runs. For every list and table: which jobs it refuses. What card 3 of
 -- 02 changed: `SpanFirst`.
-use Rattle.std.specs.Prelude.{ℕ, zero, suc, ◌≤◌, ◌≡◌, refl, List, length, get_or, take, ltb}
+use Rattle.std.specs.Prelude.{ℕ, zero, suc, ◌≤◌, ◌≡◌, refl, List, length, get_or, take, ltb, Err, Ok}
 use Rattle.std.proofs.Common.{sym, ap, subst, ◌∙◌, inl, inr, arith, length-take-le}
 use Rattle.sched.specs.Jobs.{Jobs}
 use Rattle.sched.proofs.Refusals.Laws.{refusal_number}
@@ -14,13 +14,12 @@ use Rattle.sched.specs.Feasible.{Feasible}
 use Rattle.sched.proofs.Theorems.RefusesJob.{RefusesJob, not_job, other_if, other_then, other_passed, other_length}
 use Rattle.sched.proofs.Theorems.TellsJob.{TellsJob, first_tells}
 use Rattle.sched.specs.declared.Refusal.TheVariants.{TooRare}
-use Rattle.sched.specs.declared.Checked.{Checked}
-use Rattle.sched.specs.declared.Checked.TheVariants.{Passed, Refused as Faulty}
 use Rattle.judge.specs.Faults.{slot_fault, spent_in, slot_check, slots_from, rare_from, faults_by, faults_check}
 use Rattle.judge.proofs.Faults.Laws.{slot_refuses_no_job}
 use Rattle.judge.proofs.Faults.Feasibility.{faultless_feasible, feasible_faultless}
 use Rattle.judge.specs.Verdict.{accepts, judge_check, judged, judged_number, judged_values, Just}
 use Rattle.judge.proofs.Verdict.Laws.{faults_decide}
+use Rattle.sched.specs.Refusals.{Checked}
 pub mod SpanFirst
 
 -- a table is accepted only for a list that passes the list checks, and only if it has at least H bytes
@@ -29,19 +28,19 @@ unfolding judged
 accepted_checked J table z = by_check (judge_check J table) refl
   where
     by_check : (c : Checked) → judge_check J table ≡ c → Passes J × (J.horizon ≤ length table)
-    by_check Passed e =
+    by_check (Ok tt) e =
         let (list, rest) = then_passed (check_of J) _ e in
         let (long, faultless) = then_passed (length_check (length table) J.horizon) _ rest in
         (passed_passes J list, length_good (length table) J.horizon long)
-    by_check (Faulty r) e =
+    by_check (Err r) e =
         absurd (refusal_number r (sym (ap (λ (c : Checked). judged_number (accepts c (table_figures J (take J.horizon table)))) e) ∙ z))
 
 -- an answer by a check that passes just what is feasible
-just_check : (J : Jobs) (slots : List ℕ) (check : Checked) → (check ≡ Passed → Feasible J slots) → (Feasible J slots → check ≡ Passed) →
+just_check : (J : Jobs) (slots : List ℕ) (check : Checked) → (check ≡ Ok tt → Feasible J slots) → (Feasible J slots → check ≡ Ok tt) →
     Just J slots (accepts check (table_figures J slots))
-just_check J slots Passed feasible faultless =
+just_check J slots (Ok tt) feasible faultless =
     record { accepted_feasible = λ z. feasible refl; feasible_accepted = λ f. refl; figures = λ z. refl }
-just_check J slots (Faulty r) feasible faultless =
+just_check J slots (Err r) feasible faultless =
     record {
       accepted_feasible = λ z. absurd (refusal_number r z);
       feasible_accepted = λ f. refused_not_passed r (faultless f);

@@ -1,26 +1,25 @@
 -- The pass over the slots and the pass over the jobs: a turn that goes on, a turn that refuses, and the end.
+use Rattle.std.specs.Prelude.{Err, Ok}
 use Prim.Native.Nat.{ℕ, zero, suc, ◌+◌, ◌-◌, ◌≤◌, ◌<◌}
 use mathlib.Core.Path.{◌≡◌, refl, sym, ap, ap₂, ◌∙◌}
 use mathlib.Core.Bool.{Bool, true, false}
-use mathlib.Core.List.{List}
+use mathlib.Core.List.{List, [], ◌∷◌}
 use native.Mathlib.Numerals.{add-one}
 use native.Mathlib.Nat.{sub-zero}
 use native.Mathlib.Decide.{ℕ_discrete}
 use native.Mathlib.Omega.{arith}
-use borrow.Author.Tests.{lt-ltb, le-ltb, ltb-true, leb-false}
+use borrow.Author.Tests.{lt-ltb, le-ltb, ltb-true}
 use lib.ListN.{length, get_or, set, take, replicate, length-set, length-replicate, get_or-replicate}
-use lib.Seq.{take_all, get_or-set_same, get_or-set_other}
+use lib.Seq.{length-take-le, take_all, get_or-set_same, get_or-set_other}
 use lib.Dec.{leb, ltb}
 use Rattle.sched.proofs.Bounded.Laws.{by_bool}
 use Rattle.sched.specs.Slots.{times}
 use Rattle.sched.specs.Checks.{refuse_if, and_then}
 use Rattle.sched.specs.declared.Refusal.{Refusal}
 use Rattle.sched.specs.declared.Refusal.TheVariants.{TooRare}
-use Rattle.sched.specs.declared.Checked.{Checked}
-use Rattle.sched.specs.declared.Checked.TheVariants.{Passed, Refused}
-use Rattle.judge.proofs.Faults.Laws.{slot_good}
-use Rattle.sched.proofs.Slots.Laws.{times_named, times_unnamed}
+use Rattle.sched.proofs.Slots.Laws.{times_none, times_same, times_other, times_named, times_unnamed}
 use Rattle.judge.specs.Faults.{Sized, slot_fault, slot_check, slots_from, rare_from, faults_by, faults_check}
+use Rattle.sched.specs.Refusals.{Checked}
 
 -- the jobs
 
@@ -32,10 +31,10 @@ module _ (named : ℕ → ℕ) (ps : List ℕ) (all : Checked) (n j : ℕ) (e : 
   pub rare_next : j < n → get_or ps j 0 ≤ named j → all ≡ rare_from (n - (j + 1)) (j + 1) named ps
   rare_next l f = e ∙ rare_turn l ∙ simp (le-ltb (named j) (get_or ps j 0) f)
 
-  pub rare_stop : j < n → named j < get_or ps j 0 → Refused (TooRare j) ≡ all
+  pub rare_stop : j < n → named j < get_or ps j 0 → Err (TooRare j) ≡ all
   rare_stop l f = sym (e ∙ rare_turn l ∙ simp (lt-ltb (named j) (get_or ps j 0) f))
 
-  pub rare_end : n ≤ j → Passed ≡ all
+  pub rare_end : n ≤ j → (Ok tt) ≡ all
   unfolding rare_from
   rare_end l = let z : n - j ≡ 0 = omega arith in sym (rw z at e)
 
@@ -76,9 +75,17 @@ module _ (n : ℕ) (named table : List ℕ) (t : ℕ) (l : t < length table) (co
   counts_other : n ≤ get_or table t 0 → Counts n named table (t + 1)
   counts_other b j m = rw (add-one t) (counts j m ∙ sym (times_unnamed j t table l (omega arith)))
 
+-- no byte stands more often than there are slots
+times_most : (j : ℕ) (l : List ℕ) → times j l ≤ length l
+times_most j [] = omega (arith, times_none j)
+times_most j (x ∷ l) = go (ℕ_discrete x j) (times_most j l)
+  where
+    go : Dec (x ≡ j) → times j l ≤ length l → times j (x ∷ l) ≤ length (x ∷ l)
+    go (yes e) ih = omega (arith, times_same j x l e)
+    go (no e) ih = omega (arith, times_other j x l e)
+
 -- what the whole check gives is what is left to check from slot t on
 pub record Walk (rs ds ps table named : List ℕ) (t : ℕ) : Type 0 where
-  pub within : t ≤ length table
   pub counters : length named ≡ 64
   pub counts : Counts (length rs) named table t
   pub rest : faults_check rs ds ps table ≡ and_then (slots_from slot_fault (length table - t) t rs ds ps table) (rare_from (length rs) 0 (λ j. times j table) ps)
@@ -87,7 +94,6 @@ pub walk_start : (rs ds ps table : List ℕ) → Sized rs ds ps → Walk rs ds p
 unfolding faults_by times
 walk_start rs ds ps table z =
     record {
-      within = omega arith;
       counters = length-replicate {A = ℕ} 64 0;
       counts = λ j l. get_or-replicate {A = ℕ} 64 j 0 0 (omega (arith, z.few));
       rest = simp sub-zero;
@@ -117,32 +123,30 @@ module _ (rs ds ps table named : List ℕ) (t : ℕ) (w : Walk rs ds ps table na
       (slots_turn l
       ∙ ap (λ (x : Checked). and_then x (slots_from slot_fault (length table - (t + 1)) (t + 1) rs ds ps table)) (sym fault_here_lem ∙ e))
 
-  pub walk_job : Sized rs ds ps → t < length table → get_or table t 0 < length rs → fault_here ≡ Passed → Walk rs ds ps table (set named (get_or table t 0) (get_or named (get_or table t 0) 0 + 1)) (t + 1)
+  pub walk_job : Sized rs ds ps → t < length table → get_or table t 0 < length rs → fault_here ≡ Ok tt → Walk rs ds ps table (set named (get_or table t 0) (get_or named (get_or table t 0) 0 + 1)) (t + 1)
   walk_job z l b e =
       record {
-        within = omega arith;
         counters = simp length-set w.counters;
         counts = counts_job (length rs) named table t l w.counts (omega (arith, z.few, w.counters)) b;
-        rest = turned Passed l e;
+        rest = turned (Ok tt) l e;
       }
 
-  pub walk_other : t < length table → length rs ≤ get_or table t 0 → fault_here ≡ Passed → Walk rs ds ps table named (t + 1)
+  pub walk_other : t < length table → length rs ≤ get_or table t 0 → fault_here ≡ Ok tt → Walk rs ds ps table named (t + 1)
   walk_other l b e =
       record {
-        within = omega arith;
         counters = w.counters;
         counts = counts_other (length rs) named table t l w.counts b;
-        rest = turned Passed l e;
+        rest = turned (Ok tt) l e;
       }
 
-  pub walk_stop : (r : Refusal) → t < length table → fault_here ≡ Refused r → Refused r ≡ faults_check rs ds ps table
-  walk_stop r l e = sym (turned (Refused r) l e)
+  pub walk_stop : (r : Refusal) → t < length table → fault_here ≡ Err r → Err r ≡ faults_check rs ds ps table
+  walk_stop r l e = sym (turned (Err r) l e)
 
-  -- the counter of a job that slot t may name has not reached p
-  pub walk_fits : get_or table t 0 < length rs → fault_here ≡ Passed → get_or named (get_or table t 0) 0 < get_or ps (get_or table t 0) 0
-  walk_fits b e =
-      leb-false (get_or ps (get_or table t 0) 0) (get_or named (get_or table t 0) 0)
-      ((slot_good (length rs) (get_or rs (get_or table t 0) 0) (get_or ds (get_or table t 0) 0) t (get_or table t 0) (leb (get_or ps (get_or table t 0) 0) (get_or named (get_or table t 0) 0)) e).unspent b)
+  -- a job was named in earlier slots only
+  pub walk_fits : t < length table → get_or table t 0 < length rs → get_or named (get_or table t 0) 0 ≤ t
+  walk_fits l b =
+      let j = get_or table t 0 in
+      omega (arith, w.counts j b, times_most j (take t table), length-take-le t table (omega arith))
 
   pub walk_end : Sized rs ds ps → length table ≤ t → rare_from (length ps) 0 (λ j. get_or named j 0) ps ≡ faults_check rs ds ps table
   unfolding slots_from

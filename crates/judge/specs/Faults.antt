@@ -1,11 +1,10 @@
 -- 01, "Refused, and where", with 02, card 3: the faults that the judge looks for in a table, "slots in rising order", "at each slot 21, 23, 22",
 -- "then 24 for the lowest job". The table here is just the H bytes that are judged; n is the number of jobs, and rs, ds, ps are their fields.
-use Rattle.std.specs.Prelude.{ℕ, zero, suc, ◌≤◌, ◌≡◌, Bool, not, ◌&&◌, ◌||◌, List, length, get_or, take, leb, ltb, eqb}
+use Rattle.std.specs.Prelude.{ℕ, zero, suc, ◌≤◌, ◌≡◌, Bool, not, ◌&&◌, ◌||◌, List, length, get_or, take, leb, ltb, eqb, Ok}
 use Rattle.sched.specs.Slots.{times, idle, asleep}
 use Rattle.sched.specs.Checks.{refuse_if, and_then}
-use Rattle.sched.specs.declared.Checked.{Checked}
-use Rattle.sched.specs.declared.Checked.TheVariants.{Passed}
 use Rattle.sched.specs.declared.Refusal.TheVariants.{BadByte, TooOften, OutOfSpan, TooRare}
+use Rattle.sched.specs.Refusals.{Checked}
 
 -- the fields belong together, and there are no more jobs than counters; a list that passes the list checks has both
 pub record Sized (rs ds ps : List ℕ) : Type 0 where
@@ -23,7 +22,7 @@ abbrev pub slot_fault : SlotCheck
 slot_fault n r d t byte spent =
     refuse_if (leb n byte && not (eqb byte idle) && not (eqb byte asleep)) (BadByte t)
     (refuse_if (ltb byte n && (ltb t r || leb d t)) (OutOfSpan t)
-    (refuse_if (ltb byte n && spent) (TooOften t) Passed))
+    (refuse_if (ltb byte n && spent) (TooOften t) (Ok tt)))
 
 -- the byte j stands p times or more in these slots
 abbrev pub spent_in : List ℕ → List ℕ → ℕ → Bool
@@ -36,12 +35,12 @@ slot_check fault rs ds ps table t =
 
 -- the k slots from slot t on, each by the same check
 unfoldable pub slots_from : SlotCheck → ℕ → ℕ → List ℕ → List ℕ → List ℕ → List ℕ → Checked
-slots_from fault zero t rs ds ps table = Passed
+slots_from fault zero t rs ds ps table = Ok tt
 slots_from fault (suc k) t rs ds ps table = and_then (slot_check fault rs ds ps table t) (slots_from fault k (suc t) rs ds ps table)
 
 -- 24, "a job stands fewer than p times", for the k jobs from j on; `named` says how often each stands
 unfoldable pub rare_from : ℕ → ℕ → (ℕ → ℕ) → List ℕ → Checked
-rare_from zero j named ps = Passed
+rare_from zero j named ps = Ok tt
 rare_from (suc k) j named ps = refuse_if (ltb (named j) (get_or ps j 0)) (TooRare j) (rare_from k (suc j) named ps)
 
 unfoldable pub faults_by : SlotCheck → List ℕ → List ℕ → List ℕ → List ℕ → Checked

@@ -1,5 +1,5 @@
 -- Demand 3 of the plan that 01 and 02 define, what `added` counts, steps 1 and 3 to their ends, and what step 5 leaves.
-use Rattle.std.specs.Prelude.{ℕ, ◌+◌, ◌-◌, ◌≤◌, ◌<◌, ◌≡◌, true, false, List, ◌↔◌, ◌⊎◌, length, get_or, drop}
+use Rattle.std.specs.Prelude.{ℕ, ◌+◌, ◌-◌, ◌≤◌, ◌<◌, ◌≡◌, true, false, List, ◌↔◌, ◌⊎◌, length, get_or, drop, Ok}
 use Rattle.std.proofs.Math.Path.{refl, sym, ap}
 use Rattle.std.proofs.Common.{subst, ◌∙◌, inl, inr, arith, ltb-true, lt-ltb}
 use Rattle.std.proofs.Math.Option.{Option, none, some}
@@ -22,7 +22,6 @@ use Rattle.steps.specs.Steps.{table_from, plan_table}
 use Rattle.steps.specs.Outcomes.{Plan, figures_of, plan_by, planned, plan}
 use Rattle.sched.specs.Answers.{outcome_number}
 use Rattle.steps.proofs.Outcomes.Laws.{early_overload, early_none, plan_ended, plan_goes_on}
-use Rattle.sched.specs.declared.Checked.TheVariants.{Passed}
 use Rattle.sched.specs.declared.PlanFigures.{PlanFigures}
 use Rattle.sched.specs.declared.Interval.{Interval}
 use Rattle.sched.specs.declared.Outcome.{Outcome}
@@ -160,7 +159,7 @@ overload_told J lent a b p m over =
     (i, shown_some J i e, plan_ended planned J lent (Overloaded i) (early_overload J (length lent) p m i e))
 
 -- "A volume larger than d−r is no field fault; it is an overload." The check of a job lets it pass
-pub large_volume_no_fault : (h j r d p : ℕ) → r < d → d ≤ h → d - r < p → job_check h j r d p ≡ Passed
+pub large_volume_no_fault : (h j r d p : ℕ) → r < d → d ≤ h → d - r < p → job_check h j r d p ≡ Ok tt
 large_volume_no_fault h j r d p span within large = job_passes h j r d p (record { span = span; within = within; some = omega arith })
 
 -- and in a list that passes, with a table of at least H bytes, it gives 18

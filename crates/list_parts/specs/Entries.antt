@@ -1,13 +1,12 @@
 -- 01, "Job list bytes" and "Refused, and where": the entry of a job, its checks, and the walk over entries. The walk takes the check and the
 -- length of an entry, and the check of an entry takes that of a job, so that another layout or another order of faults can use them.
-use Rattle.std.specs.Prelude.{ℕ, zero, suc, ◌+◌, Bool, true, false, not, ◌&&◌, List, [], ◌∷◌, length, get_or, drop, leb, ltb, eqb}
+use Rattle.std.specs.Prelude.{ℕ, zero, suc, ◌+◌, Bool, true, false, not, ◌&&◌, List, [], ◌∷◌, length, get_or, drop, leb, ltb, eqb, Ok}
 use Rattle.sched.specs.TwoBytes.{word}
 use Rattle.sched.specs.Checks.{JobCheck, refuse_if, and_then}
 use Rattle.sched.specs.declared.Refusal.TheVariants.{Truncated, UnknownBit, Redundant, LeftOver}
-use Rattle.sched.specs.declared.Checked.{Checked}
-use Rattle.sched.specs.declared.Checked.TheVariants.{Passed}
 use Rattle.list_parts.specs.Layout.{absent_release, absent_deadline, absent_volume, has_release, has_deadline, has_volume, release_at, deadline_at}
 use Rattle.list_parts.specs.Layout.{volume_at, entry_length}
+use Rattle.sched.specs.Refusals.{Checked}
 
 -- The job whose entry a list of bytes starts with
 
@@ -39,11 +38,11 @@ known_maps = 8
 
 -- "11 for the map, 13": a map byte is there, and it is below a bound
 unfoldable pub map_check : ℕ → ℕ → ℕ → List ℕ → Checked
-map_check maps n at bs = refuse_if (eqb (length bs) 0) (Truncated n) (refuse_if (leb maps (entry_map bs)) (UnknownBit at) Passed)
+map_check maps n at bs = refuse_if (eqb (length bs) 0) (Truncated n) (refuse_if (leb maps (entry_map bs)) (UnknownBit at) (Ok tt))
 
 -- "11 for its fields"
 abbrev pub whole_check : ℕ → ℕ → List ℕ → Checked
-whole_check size n bs = refuse_if (ltb (length bs) size) (Truncated n) Passed
+whole_check size n bs = refuse_if (ltb (length bs) size) (Truncated n) (Ok tt)
 
 -- 14: "a field stands with its absent value"
 abbrev pub redundant : Bool → ℕ → List ℕ → Bool
@@ -51,7 +50,7 @@ redundant stands absent bs = stands && eqb (word bs) absent
 
 -- 14 for the field at a place of the entry
 abbrev pub field_check : Bool → ℕ → ℕ → ℕ → List ℕ → Checked
-field_check stands absent place at bs = refuse_if (redundant stands absent (drop place bs)) (Redundant (at + place)) Passed
+field_check stands absent place at bs = refuse_if (redundant stands absent (drop place bs)) (Redundant (at + place)) (Ok tt)
 
 -- "14 in field order"
 unfoldable pub redundancy_check : ℕ → ℕ → List ℕ → Checked
@@ -79,7 +78,7 @@ entry_check check h n j at bs =
 
 -- "at the end 16"
 unfoldable pub entries_check : EntryCheck → (List ℕ → ℕ) → ℕ → ℕ → ℕ → List ℕ → Checked
-entries_check check size zero j at bs = refuse_if (not (eqb (length bs) 0)) (LeftOver at) Passed
+entries_check check size zero j at bs = refuse_if (not (eqb (length bs) 0)) (LeftOver at) (Ok tt)
 entries_check check size (suc k) j at bs =
     and_then (check j at bs) (entries_check check size k (suc j) (at + size bs) (drop (size bs) bs))
 

@@ -4,7 +4,7 @@ use Rattle.sched.specs.Jobs.{Jobs, count}
 use Rattle.sched.specs.TwoBytes.{two_bytes, word}
 use Rattle.sched.specs.Checks.{refuse_if, and_then, horizon_check, count_check}
 use Rattle.sched.specs.declared.Refusal.TheVariants.{Truncated}
-use Rattle.sched.specs.declared.Checked.{Checked}
+use Rattle.sched.specs.Refusals.{Checked}
 
 -- The header: "H, then q, two bytes each, low byte first, then the number of jobs"
 abbrev pub header_length : ℕ

@@ -1,22 +1,21 @@
 // One job in its bytes: a map byte, and the fields whose bits stand. `bytes` starts with the map byte.
-ghost use Rattle.std.specs.Prelude.{◌≡◌, ◌&&◌, ◌+◌, ◌≤◌, ltb, eqb, length, drop};
-ghost use Rattle.sched.specs.TwoBytes.{word};
+ghost use Rattle.std.specs.Prelude.{◌≡◌, ◌+◌, ◌/◌, ◌%◌, ◌^◌, ◌<◌, ◌≤◌, ltb, eqb, length};
 ghost use Rattle.sched.specs.Checks.{job_check};
-ghost use Rattle.list_parts.specs.Layout.{has_release, has_deadline, has_volume, width, entry_length};
+ghost use Rattle.list_parts.specs.Layout.{width, entry_length};
 ghost use Rattle.list_parts.specs.Entries.{entry_size, map_check, redundancy_check, entry_check};
-ghost use Rattle.list_parts.specs.Parts.{FoundAt, WholeEntry, entry_of, job_part};
+ghost use Rattle.list_parts.specs.Parts.{FieldAt, WholeEntry, entry_of, job_part};
 
-use sched::{Checked, Refusal};
+use sched::Refusal;
 
 // A field's value, and the offset behind the field.
-#[derive(Drop)]
+#[derive(Clone, Copy)]
 struct Found {
     value: u16,
     next: usize,
 }
 
 // The fields of a job, and the length of its entry.
-#[derive(Drop)]
+#[derive(Clone, Copy)]
 pub struct Fields {
     pub release: u16,
     pub deadline: u16,
@@ -24,36 +23,12 @@ pub struct Fields {
     pub size: usize,
 }
 
-#[derive(Drop)]
-pub enum Entry {
-    Read(Fields),
-    Refused(Refusal),
-}
-
-// The number in the two bytes at an offset.
-pub fn word(bytes: &[u8], at: usize) -> u16
-    requires { at + 2 ≤ length bytes.now }
-    ensures { result ≡ word (drop at bytes.now) }
+// Whether the bit at a place of a map byte stands.
+fn has(map: u8, place: u32) -> bool
+    requires { place < 8 }
+    ensures { result ≡ eqb (map / 2 ^ place % 2) 1 }
 {
-    bytes[at] as u16 + 256 * (bytes[at + 1] as u16)
-}
-
-fn has_release(map: u8) -> bool
-    ensures { result ≡ has_release map }
-{
-    map % 2 == 1
-}
-
-fn has_deadline(map: u8) -> bool
-    ensures { result ≡ has_deadline map }
-{
-    map / 2 % 2 == 1
-}
-
-fn has_volume(map: u8) -> bool
-    ensures { result ≡ has_volume map }
-{
-    map / 4 % 2 == 1
+    (map >> place) % 2 == 1
 }
 
 // The length of the entry that a map byte starts: the eight maps, with the fields that stand behind each.
@@ -85,66 +60,51 @@ fn is_cut(bytes: &[u8]) -> bool
     bytes.len() < entry_length(bytes[0])
 }
 
-// The field at an offset: its value, or the absent value if it does not stand.
-fn field(stands: bool, absent: u16, bytes: &[u8], at: usize) -> Found
-    requires { at + width stands ≤ length bytes.now }
-    ensures { FoundAt stands absent at bytes.now result }
+// The field at a place of the entry, or its absent value if it does not stand; 14 where it stands with that value.
+fn field(stands: bool, absent: u16, place: usize, at: usize, bytes: &[u8]) -> Result<Found, Refusal>
+    requires { (place + width stands ≤ length bytes.now) × (at + length bytes.now < 2 ^ 64) }
+    ensures { FieldAt stands absent place at bytes.now result }
 {
-    if stands {
-        Found {
-            value: word(bytes, at),
-            next: at + 2,
-        }
-    } else {
-        Found {
+    if !stands {
+        return Ok(Found {
             value: absent,
-            next: at,
-        }
+            next: place,
+        });
     }
-}
-
-// Whether a field stands with its absent value, given the value read.
-fn is_redundant(stands: bool, absent: u16, x: u16) -> bool
-    ensures { result ≡ (stands && eqb x absent) }
-{
-    if stands { x == absent } else { false }
+    let value = sched::read_word(bytes, place);
+    if value == absent {
+        return Err(Refusal::Redundant(at + place));
+    }
+    Ok(Found {
+        value,
+        next: place + 2,
+    })
 }
 
 // 11 and 13 for the map byte at offset `at` of an input of `total` bytes; maps from `maps` on are unknown.
-pub fn check_map(maps: u8, total: usize, at: usize, bytes: &[u8]) -> Checked
+#[tactic(auto, unfolding(crate::specs::Entries::map_check))]
+pub fn check_map(maps: u8, total: usize, at: usize, bytes: &[u8]) -> Result<(), Refusal>
     ensures { result ≡ map_check maps total at bytes.now }
 {
-    if bytes.len() == 0 {
-        return Checked::Refused(Refusal::Truncated(total));
+    if bytes.is_empty() {
+        return Err(Refusal::Truncated(total));
     }
     if maps <= bytes[0] {
-        return Checked::Refused(Refusal::UnknownBit(at));
+        return Err(Refusal::UnknownBit(at));
     }
-    Checked::Passed
+    Ok(())
 }
 
 // The fields of an entry that is whole, refused where one stands with its absent value; its map byte stands at offset `at` of the input.
-pub fn read_fields(h: u16, at: usize, bytes: &[u8]) -> Entry
+pub fn read_fields(h: u16, at: usize, bytes: &[u8]) -> Result<Fields, Refusal>
     requires { WholeEntry at bytes.now }
     ensures { result ≡ entry_of (redundancy_check h at bytes.now) h bytes.now }
 {
     let map = bytes[0];
-    let has = has_release(map);
-    let first = field(has, 0, bytes, 1);
-    if is_redundant(has, 0, first.value) {
-        return Entry::Refused(Refusal::Redundant(at + 1));
-    }
-    let has = has_deadline(map);
-    let second = field(has, h, bytes, first.next);
-    if is_redundant(has, h, second.value) {
-        return Entry::Refused(Refusal::Redundant(at + first.next));
-    }
-    let has = has_volume(map);
-    let third = field(has, 1, bytes, second.next);
-    if is_redundant(has, 1, third.value) {
-        return Entry::Refused(Refusal::Redundant(at + second.next));
-    }
-    Entry::Read(Fields {
+    let first = field(has(map, 0), 0, 1, at, bytes)?;
+    let second = field(has(map, 1), h, first.next, at, bytes)?;
+    let third = field(has(map, 2), 1, second.next, at, bytes)?;
+    Ok(Fields {
         release: first.value,
         deadline: second.value,
         volume: third.value,
@@ -153,31 +113,23 @@ pub fn read_fields(h: u16, at: usize, bytes: &[u8]) -> Entry
 }
 
 // The job of an entry that is whole, read and checked.
-fn read_job(h: u16, job: usize, at: usize, bytes: &[u8]) -> Entry
+fn read_job(h: u16, job: usize, at: usize, bytes: &[u8]) -> Result<Fields, Refusal>
     requires { WholeEntry at bytes.now }
     ensures { result ≡ entry_of (job_part h job at bytes.now) h bytes.now }
 {
-    match read_fields(h, at, bytes) {
-        Entry::Read(f) => match sched::check_job(h, job, f.release, f.deadline, f.volume) {
-            Checked::Passed => Entry::Read(f),
-            Checked::Refused(r) => Entry::Refused(r),
-        },
-        Entry::Refused(r) => Entry::Refused(r),
-    }
+    let f = read_fields(h, at, bytes)?;
+    sched::check_job(h, job, f.release, f.deadline, f.volume)?;
+    Ok(f)
 }
 
 // A job's entry, read and checked. It starts at offset `at` of an input of `total` bytes, and `bytes` are all that follow.
-pub fn read(h: u16, total: usize, job: usize, at: usize, bytes: &[u8]) -> Entry
+pub fn read(h: u16, total: usize, job: usize, at: usize, bytes: &[u8]) -> Result<Fields, Refusal>
     requires { at + length bytes.now ≡ total }
     ensures { result ≡ entry_of (entry_check job_check h total job at bytes.now) h bytes.now }
 {
-    match check_map(8, total, at, bytes) {
-        Checked::Passed => {
-            if is_cut(bytes) {
-                return Entry::Refused(Refusal::Truncated(total));
-            }
-            read_job(h, job, at, bytes)
-        }
-        Checked::Refused(r) => Entry::Refused(r),
+    check_map(8, total, at, bytes)?;
+    if is_cut(bytes) {
+        return Err(Refusal::Truncated(total));
     }
+    read_job(h, job, at, bytes)
 }

@@ -5,11 +5,10 @@ ghost use Rattle.sched.specs.TwoBytes.{two_bytes};
 ghost use Rattle.list_parts.specs.Header.{header_length, count_in, count_byte, header_check};
 ghost use Rattle.list_parts.specs.Parts.{NumbersOf, HeaderFits};
 
-use super::entry;
-use sched::{Checked, Refusal};
+use sched::Refusal;
 
 // Horizon, wake cost, and the byte with the number of jobs.
-#[derive(Drop)]
+#[derive(Clone, Copy)]
 pub struct Header {
     pub h: u16,
     pub q: u16,
@@ -20,7 +19,7 @@ pub struct Header {
 pub fn count_in(byte: u8) -> usize
     ensures { result ≡ count_in byte }
 {
-    byte as usize
+    usize::from(byte)
 }
 
 // The header of bytes that hold one.
@@ -29,24 +28,22 @@ pub fn read(bytes: &[u8]) -> Header
     ensures { NumbersOf bytes.now result }
 {
     Header {
-        h: entry::word(bytes, 0),
-        q: entry::word(bytes, 2),
+        h: sched::read_word(bytes, 0),
+        q: sched::read_word(bytes, 2),
         byte: bytes[4],
     }
 }
 
 // 11 for the header, 12 for H, 12 for the count.
-pub fn check(bytes: &[u8]) -> Checked
+pub fn check(bytes: &[u8]) -> Result<(), Refusal>
     ensures { result ≡ header_check bytes.now }
 {
     if bytes.len() < 5 {
-        return Checked::Refused(Refusal::Truncated(bytes.len()));
+        return Err(Refusal::Truncated(bytes.len()));
     }
     let list = read(bytes);
-    match sched::check_horizon(list.h) {
-        Checked::Passed => sched::check_count(count_in(list.byte)),
-        Checked::Refused(r) => Checked::Refused(r),
-    }
+    sched::check_horizon(list.h)?;
+    sched::check_count(count_in(list.byte))
 }
 
 // The byte with the number of jobs; the processor sleeps before slot 0.
@@ -61,10 +58,8 @@ fn put_header(h: u16, q: u16, count: u8, out: &mut [u8])
     requires { header_length ≤ length out.old }
     ensures { out.new ≡ sets out.old 0 (two_bytes h ++ (two_bytes q ++ (count ∷ []))) }
 {
-    out[0] = (h % 256) as u8;
-    out[1] = (h / 256) as u8;
-    out[2] = (q % 256) as u8;
-    out[3] = (q / 256) as u8;
+    sched::put_word(h, 0, out);
+    sched::put_word(q, 2, out);
     out[4] = count;
 }
 

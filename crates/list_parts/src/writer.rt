@@ -1,24 +1,18 @@
 // One job's entry as it is written: its map byte, its length, and the bytes.
 ghost use Rattle.std.specs.Prelude.{◌≡◌, ◌+◌, ◌≤◌, length};
-ghost use Rattle.sched.specs.Bits.{bit};
 ghost use Rattle.sched.specs.Buffers.{PutAt};
 ghost use Rattle.list_parts.specs.Layout.{stands, bytes_if, job_map, entry_bytes};
 
 use super::entry;
 
-fn bit(stands: bool) -> u8
-    ensures { result ≡ bit stands }
-{
-    if stands { 1 } else { 0 }
-}
-
 fn map_byte(h: u16, r: u16, d: u16, p: u16) -> u8
     ensures { result ≡ job_map h r d p }
 {
-    bit(r != 0) + 2 * bit(d != h) + 4 * bit(p != 1)
+    u8::from(r != 0) + 2 * u8::from(d != h) + 4 * u8::from(p != 1)
 }
 
 // The length of the entry of a job.
+#[tactic(auto, using(crate::proofs::Laws::Maps::entry_by_map))]
 pub fn entry_size(h: u16, r: u16, d: u16, p: u16) -> usize
     ensures { result ≡ length (entry_bytes h r d p) }
 {
@@ -33,12 +27,12 @@ fn put_field(absent: u16, x: u16, at: usize, out: &mut [u8]) -> usize
     if x == absent {
         return at;
     }
-    out[at] = (x % 256) as u8;
-    out[at + 1] = (x / 256) as u8;
+    sched::put_word(x, at, out);
     at + 2
 }
 
 // The entry of a job, and the offset behind it.
+// kept: h, r, d and p side by side, since docs/ARCHITECTURE.md names this function for other layouts
 pub fn put_entry(h: u16, r: u16, d: u16, p: u16, at: usize, out: &mut [u8]) -> usize
     requires { at + length (entry_bytes h r d p) ≤ length out.old }
     ensures { PutAt out.old at (entry_bytes h r d p) result out.new }

@@ -1,3 +1,3 @@
+pub mod Gathering
 pub mod Counting
 pub mod Sorting
-pub mod Climbing

@@ -4,4 +4,5 @@ pub mod Counts
 pub mod Fronts
 pub mod Placing
 pub mod Views
+pub mod OneProof
 pub mod Lists

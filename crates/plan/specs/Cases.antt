@@ -8,7 +8,6 @@ use Rattle.sched.specs.Checks.{check_from}
 use Rattle.sched.specs.Energy.{awake_slots, runs_from}
 use Rattle.sched.specs.Runs.{leading, run_list_from}
 use Rattle.sched.proofs.Cases.{third}
-use Rattle.sched.specs.declared.Checked.{Checked}
 use Rattle.sched.specs.declared.Outcome.TheVariants.{Planned}
 use Rattle.steps.specs.Overload.{volume_if, volume_inside, overloaded, overload_ending_at, shown_overload}
 use Rattle.steps.specs.Outcomes.{Plan, figures_of, early_answer, planned, plan}
@@ -19,6 +18,7 @@ use Rattle.decimal.specs.Decimal.{digits_in, digits}
 use Rattle.report.specs.Report.{numbers, lines_of, text_of}
 use Rattle.report.specs.Cases.{third_text, truncated_text}
 use Rattle.plan.specs.Program.{lent_table, printed_plan, printed_after, printed}
+use Rattle.sched.specs.Refusals.{Checked}
 
 third_read : printed third_bytes ≡ printed_plan third
 unfolding printed

@@ -1,12 +1,11 @@
 -- 01, "Plans worked by hand", last paragraph: what the program prints of the bytes that it read.
-use Rattle.std.specs.Prelude.{ℕ, ◌≤◌, ◌≡◌, List, [], length, take, replicate}
+use Rattle.std.specs.Prelude.{ℕ, ◌≤◌, ◌≡◌, List, [], length, take, replicate, Err, Ok}
 use Rattle.sched.specs.Jobs.{Jobs}
 use Rattle.steps.specs.Outcomes.{plan}
-use Rattle.sched.specs.declared.Checked.{Checked}
-use Rattle.sched.specs.declared.Checked.TheVariants.{Passed, Refused as Faulty}
 use Rattle.sched.specs.declared.Outcome.TheVariants.{Refused}
 use Rattle.joblist.specs.Reading.{read_check, list_of}
 use Rattle.report.specs.Report.{text_of}
+use Rattle.sched.specs.Refusals.{Checked}
 
 -- the table that the program lends the planner, long enough for every horizon
 abbrev pub lent_table : List ℕ
@@ -17,8 +16,8 @@ printed_plan J = text_of (plan J lent_table).answer (take J.horizon (plan J lent
 
 -- "After the list has been read without refusal, planning begins."
 abbrev pub printed_after : Checked → List ℕ → List ℕ
-printed_after (Faulty r) input = text_of (Refused r) []
-printed_after Passed input = printed_plan (list_of input)
+printed_after (Err r) input = text_of (Refused r) []
+printed_after (Ok tt) input = printed_plan (list_of input)
 
 -- the program lends the reader three lists of 64, so it can read every list
 unfoldable pub printed : List ℕ → List ℕ

@@ -12,9 +12,9 @@ use Rattle.sched.specs.Slots.{asleep, awake, awake_of, wakeful}
 use Rattle.sched.proofs.Slots.Laws.{awake_of_lem}
 use Rattle.laws_edf.specs.Run.{Spans, State, chosen, after, slot_byte, bytes, final}
 use Rattle.laws_edf.specs.Search.{state_of}
-use Rattle.laws_edf.specs.Orders.{Sorted}
-use Rattle.queue.specs.Mask.{mask}
-use Rattle.queue.specs.Ranks.{spans_of, serves_rank}
+use Rattle.orders.specs.declared.ordered_jobs.OrderedJobs.{OrderedJobs}
+use Rattle.queue.specs.declared.Ready.{Ready}
+use Rattle.queue.specs.Ranks.{spans_of}
 use Rattle.queue.specs.Serving.{CanServeLowest, ServesLowest}
 use Rattle.queue.specs.Serving.Lowest.{can_serve_lowest, lowest_after}
 use Rattle.queue.specs.Arrivals.{ReadyAt}
@@ -48,40 +48,33 @@ module _ (F : Spans) where
         left_long = r.left_long;
       }
 
-module _ (releases deadlines ranks arrivals : List ℕ) where
+module _ (jobs : OrderedJobs) where
   -- a sleeping slot serves nothing
-  pub slot_sleeps : (left table : List ℕ) (t bits next gone u : ℕ) → get_or table t 0 ≡ asleep → ReadyAt releases deadlines ranks arrivals left t bits next gone u → SlotDone releases deadlines ranks arrivals left table t left table bits next gone u
+  pub slot_sleeps : (left table : List ℕ) (t : ℕ) (last : Ready) → get_or table t 0 ≡ asleep → ReadyAt jobs.releases.now jobs.deadlines.now jobs.ranks.now jobs.arrivals.now left t last → SlotDone jobs left table t left table last
   unfolding chosen
-  slot_sleeps left table t bits next gone u e s =
+  slot_sleeps left table t last e s =
       let off : wakeful (get_or table t 0) ≡ false = rw (eq-eqb (get_or table t 0) asleep e) in
       record {
         table_is = rw off (sym (ap (set table t) (sym e) ∙ set-get_or table t 0));
         left_is = rw off;
         left_long = refl;
-        ready = ready_later releases deadlines ranks arrivals left t bits next gone u s;
+        ready = ready_later jobs.releases.now jobs.deadlines.now jobs.ranks.now jobs.arrivals.now left t last s;
       }
 
-module _
-    {releases deadlines ranks arrivals left : List ℕ} {t bits next gone u bits₀ next₀ gone₀ u₀ : ℕ}
-    (g : Lookable releases deadlines ranks arrivals left t bits₀ next₀ gone₀ u₀)
-    (k : Looked releases deadlines ranks arrivals left t bits next gone u) where
+module _ {jobs : OrderedJobs} {left : List ℕ} {t : ℕ} {last fresh : Ready} (g : Lookable jobs left t last) (k : Looked jobs left t fresh) where
   abbrev F : Spans
-  F = spans_of releases deadlines
+  F = spans_of jobs.releases.now jobs.deadlines.now
 
-  sorted : Sorted F.n F.d ranks
-  sorted = g.queued.orders.by_deadline
-
-  are : bits ≡ mask (serves_rank F ranks t (state_of left)) (length releases)
-  are = looked_bits g k
-
-  pub slot_can : 0 < bits → CanServeLowest bits ranks left
-  slot_can = can_serve_lowest F ranks left sorted g.queued.few g.queued.room t bits are
+  pub slot_can : 0 < fresh.mask → CanServeLowest fresh.mask jobs.ranks.now left
+  slot_can = can_serve_lowest F jobs.ranks.now left jobs.orders.by_deadline jobs.few g.room t fresh.mask (looked_bits g k)
 
   -- an awake slot serves the lowest of its ranks
-  pub slot_serves : (table : List ℕ) (byte bits' : ℕ) (left' : List ℕ) → (get_or table t 0 ≡ asleep → ⊥) → ServesLowest bits ranks left byte bits' left' → length left' ≡ length left → SlotDone releases deadlines ranks arrivals left table t left' (set table t byte) bits' next gone u
+  pub slot_serves :
+      (table : List ℕ) (byte bits' : ℕ) (left' : List ℕ) → (get_or table t 0 ≡ asleep → ⊥) → ServesLowest fresh.mask jobs.ranks.now left byte bits' left' → length left' ≡ length left →
+      SlotDone jobs left table t left' (set table t byte) (record fresh { mask = bits' })
   slot_serves table byte bits' left' n s long =
       let on : wakeful (get_or table t 0) ≡ true = rw (ne_eqb (get_or table t 0) asleep n) in
-      let a = lowest_after F ranks left sorted g.queued.few g.queued.room t bits are byte bits' left' s in
+      let a = lowest_after F jobs.ranks.now left jobs.orders.by_deadline jobs.few g.room t fresh.mask (looked_bits g k) byte bits' left' s in
       record {
         table_is = rw on (ap (set table t) a.byte_is);
         left_is = rw on a.left_is;
@@ -91,30 +84,29 @@ module _
 
 -- the whole run
 
-module _ (releases deadlines ranks arrivals : List ℕ) where
+module _ (jobs : OrderedJobs) where
+  abbrev spans : Spans
+  spans = spans_of jobs.releases.now jobs.deadlines.now
+
   pub slot_ready :
-      (first : ℕ) (left₀ table₀ left table : List ℕ) (t bits next gone u : ℕ) → Runnable releases deadlines ranks arrivals left₀ table₀ →
-      t < length table → RunTo (spans_of releases deadlines) first left₀ table₀ left table t →
-      ReadyAt releases deadlines ranks arrivals left t bits next gone u →
-      SlotReady releases deadlines ranks arrivals left table t bits next gone u
-  slot_ready first left₀ table₀ left table t bits next gone u g l r s =
-      let q = g.queued in
+      (first : ℕ) (left₀ table₀ left table : List ℕ) (t : ℕ) (last : Ready) → Runnable jobs left₀ table₀ →
+      t < length table → RunTo spans first left₀ table₀ left table t → ReadyAt jobs.releases.now jobs.deadlines.now jobs.ranks.now jobs.arrivals.now left t last → SlotReady jobs left table t last
+  slot_ready first left₀ table₀ left table t last g l r s =
       record {
         inside = l;
         lookable = record {
           short = omega (arith, g.short, r.same_long);
-          queued = record { orders = q.orders; few = q.few; room = omega (arith, q.room, r.left_long) };
+          room = omega (arith, g.room, r.left_long);
           ready = s;
         };
       }
 
   pub run_turn :
-      (first : ℕ) (left₀ table₀ left table : List ℕ) (t : ℕ) (left' table' : List ℕ) (bits next gone u : ℕ) → t < length table →
-      RunTo (spans_of releases deadlines) first left₀ table₀ left table t →
-      SlotDone releases deadlines ranks arrivals left table t left' table' bits next gone u →
-      RunTo (spans_of releases deadlines) first left₀ table₀ left' table' (t + 1)
-  run_turn first left₀ table₀ left table t left' table' bits next gone u l r d =
-      let F = spans_of releases deadlines in
+      (first : ℕ) (left₀ table₀ left table : List ℕ) (t : ℕ) (left' table' : List ℕ) (last' : Ready) → t < length table →
+      RunTo spans first left₀ table₀ left table t → SlotDone jobs left table t left' table' last' →
+      RunTo spans first left₀ table₀ left' table' (t + 1)
+  run_turn first left₀ table₀ left table t left' table' last' l r d =
+      let F = spans in
       let S = awake (awake_of table₀) in
       let b = wakeful (get_or table t 0) in
       let on : S t ≡ b = awake_of_lem table₀ t (omega (arith, r.same_long)) ∙ ap wakeful (sym (r.rest t (omega arith))) in
@@ -137,5 +129,5 @@ module _ (releases deadlines ranks arrivals : List ℕ) where
       taken : (s v : ℕ) → s < length table → table' ≡ set table s v → take s table ++ (v ∷ []) ≡ take (suc s) table'
       taken s v m e = sym (ap (take (suc s)) e ∙ take-suc-set table s v m)
 
-  pub run_ready : (left table : List ℕ) (t : ℕ) (left' table' : List ℕ) (bits next gone u : ℕ) → SlotDone releases deadlines ranks arrivals left table t left' table' bits next gone u → ReadyAt releases deadlines ranks arrivals left' (t + 1) bits next gone u
-  run_ready left table t left' table' bits next gone u d = rw add-one d.ready
+  pub run_ready : (left table : List ℕ) (t : ℕ) (left' table' : List ℕ) (last' : Ready) → SlotDone jobs left table t left' table' last' → ReadyAt jobs.releases.now jobs.deadlines.now jobs.ranks.now jobs.arrivals.now left' (t + 1) last'
+  run_ready left table t left' table' last' d = rw add-one d.ready

@@ -4,6 +4,7 @@ use Rattle.sched.specs.Bounded.{any_below}
 use Rattle.laws_edf.specs.Run.{State}
 use Rattle.laws_edf.specs.Search.{state_of}
 use Rattle.laws_edf.specs.Orders.{job_at, rank_release}
+use Rattle.queue.specs.declared.Ready.{Ready}
 use Rattle.queue.specs.Mask.{mask}
 pub mod Laws
 
@@ -38,9 +39,9 @@ pub record Gone (deadlines ranks : List ℕ) (t gone : ℕ) : Type 0 where
   pub most : gone ≤ length deadlines
   pub by_now : (k : ℕ) → k < gone → goes_at deadlines ranks k ≤ t
 
--- the bits are what slot t may serve if it lies before slot u; else some releases and deadlines are still to be seen
-pub record ReadyAt (releases deadlines ranks arrivals left : List ℕ) (t bits next gone u : ℕ) : Type 0 where
-  pub came : Come releases ranks arrivals left t bits next gone
-  pub went : Gone deadlines ranks t gone
-  pub next_release : u ≤ or_beyond (length releases) (comes_at releases ranks arrivals) next
-  pub next_deadline : u ≤ or_beyond (length deadlines) (goes_at deadlines ranks) gone
+-- the mask is what slot t may serve if it lies before slot `until`; else some releases and deadlines are still to be seen
+pub record ReadyAt (releases deadlines ranks arrivals left : List ℕ) (t : ℕ) (ready : Ready) : Type 0 where
+  pub came : Come releases ranks arrivals left t ready.mask ready.next ready.gone
+  pub went : Gone deadlines ranks t ready.gone
+  pub next_release : ready.until ≤ or_beyond (length releases) (comes_at releases ranks arrivals) ready.next
+  pub next_deadline : ready.until ≤ or_beyond (length deadlines) (goes_at deadlines ranks) ready.gone

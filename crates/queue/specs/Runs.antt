@@ -3,7 +3,9 @@ use Rattle.std.specs.Prelude.{ℕ, suc, ◌-◌, ◌≤◌, ◌<◌, ◌≡◌, 
 use Rattle.sched.specs.Slots.{awake, awake_of, wakeful}
 use Rattle.laws_edf.specs.Run.{Spans, chosen, after, slot_byte, bytes, final}
 use Rattle.laws_edf.specs.Search.{state_of}
-use Rattle.laws_edf.specs.Orders.{Orders, job_at}
+use Rattle.laws_edf.specs.Orders.{job_at}
+use Rattle.orders.specs.declared.ordered_jobs.OrderedJobs.{OrderedJobs}
+use Rattle.queue.specs.declared.Ready.{Ready}
 use Rattle.queue.specs.Ranks.{spans_of}
 use Rattle.queue.specs.Arrivals.{comes_at, goes_at, or_beyond, Come, Gone, ReadyAt}
 pub mod Reads
@@ -16,74 +18,59 @@ pub record Reached (releases ranks arrivals : List ℕ) (i : ℕ) : Type 0 where
   pub rank : get_or arrivals i 0 < length ranks
   pub job : job_at ranks (get_or arrivals i 0) < length releases
 
--- the deadline of rank k can be read
-pub record Known (deadlines ranks : List ℕ) (k : ℕ) : Type 0 where
-  pub listed : k < length ranks
-  pub job : job_at ranks k < length deadlines
-
 -- the ranks that expire by slot t can be counted
-pub record Expirable (deadlines ranks : List ℕ) (t gone : ℕ) : Type 0 where
+pub record Expirable (jobs : OrderedJobs) (t gone : ℕ) : Type 0 where
   pub short : t < 65536
-  pub known : (k : ℕ) → k < length deadlines → Known deadlines ranks k
-  pub went : Gone deadlines ranks t gone
+  pub went : Gone jobs.deadlines.now jobs.ranks.now t gone
 
 -- `all` ranks have expired by slot t, and no other
-pub record Expired (deadlines ranks : List ℕ) (t gone all : ℕ) : Type 0 where
-  pub went : Gone deadlines ranks t all
+pub record Expired (jobs : OrderedJobs) (t gone all : ℕ) : Type 0 where
+  pub went : Gone jobs.deadlines.now jobs.ranks.now t all
   pub more : gone ≤ all
-  pub later : t < or_beyond (length deadlines) (goes_at deadlines ranks) all
+  pub later : t < or_beyond (length jobs.deadlines.now) (goes_at jobs.deadlines.now jobs.ranks.now) all
 
--- the jobs in order, few enough for the bits, and a place in `left` for each
-pub record Queued (releases deadlines ranks arrivals left : List ℕ) : Type 0 where
-  pub orders : Orders releases deadlines ranks arrivals
-  pub few : length releases ≤ 64
-  pub room : length releases ≤ length left
+-- `left` has a place for each job
+abbrev pub Room : OrderedJobs → List ℕ → Type 0
+Room jobs left = length jobs.releases.now ≤ length left
 
 -- the ranks that are released by slot t can join the bits
-pub record Arrivable (releases ranks arrivals left : List ℕ) (t bits next gone : ℕ) : Type 0 where
+pub record Arrivable (jobs : OrderedJobs) (left : List ℕ) (t bits next gone : ℕ) : Type 0 where
   pub short : t < 65536
-  pub deadlines : List ℕ
-  pub queued : Queued releases deadlines ranks arrivals left
-  pub came : Come releases ranks arrivals left t bits next gone
+  pub room : Room jobs left
+  pub came : Come jobs.releases.now jobs.ranks.now jobs.arrivals.now left t bits next gone
 
 -- they have joined them, and no other
-pub record Arrived (releases ranks arrivals left : List ℕ) (t bits next gone : ℕ) : Type 0 where
-  pub came : Come releases ranks arrivals left t bits next gone
-  pub later : t < or_beyond (length releases) (comes_at releases ranks arrivals) next
-
--- r is the least of a and b
-pub record Lesser (a b r : ℕ) : Type 0 where
-  pub first : r ≤ a
-  pub second : r ≤ b
-  pub either : (t : ℕ) → t < a → t < b → t < r
+pub record Arrived (jobs : OrderedJobs) (left : List ℕ) (t bits next gone : ℕ) : Type 0 where
+  pub came : Come jobs.releases.now jobs.ranks.now jobs.arrivals.now left t bits next gone
+  pub later : t < or_beyond (length jobs.releases.now) (comes_at jobs.releases.now jobs.ranks.now jobs.arrivals.now) next
 
 -- what slot t may serve can be found out
-pub record Lookable (releases deadlines ranks arrivals left : List ℕ) (t bits next gone u : ℕ) : Type 0 where
+pub record Lookable (jobs : OrderedJobs) (left : List ℕ) (t : ℕ) (last : Ready) : Type 0 where
   pub short : t < 65536
-  pub queued : Queued releases deadlines ranks arrivals left
-  pub ready : ReadyAt releases deadlines ranks arrivals left t bits next gone u
+  pub room : Room jobs left
+  pub ready : ReadyAt jobs.releases.now jobs.deadlines.now jobs.ranks.now jobs.arrivals.now left t last
 
--- the bits are what slot t may serve
-pub record Looked (releases deadlines ranks arrivals left : List ℕ) (t bits next gone u : ℕ) : Type 0 where
-  pub ready : ReadyAt releases deadlines ranks arrivals left t bits next gone u
-  pub before : t < u
+-- the mask is what slot t may serve
+pub record Looked (jobs : OrderedJobs) (left : List ℕ) (t : ℕ) (fresh : Ready) : Type 0 where
+  pub ready : ReadyAt jobs.releases.now jobs.deadlines.now jobs.ranks.now jobs.arrivals.now left t fresh
+  pub before : t < fresh.until
 
 -- a slot can be served
-pub record SlotReady (releases deadlines ranks arrivals left table : List ℕ) (t bits next gone u : ℕ) : Type 0 where
+pub record SlotReady (jobs : OrderedJobs) (left table : List ℕ) (t : ℕ) (last : Ready) : Type 0 where
   pub inside : t < length table
-  pub lookable : Lookable releases deadlines ranks arrivals left t bits next gone u
+  pub lookable : Lookable jobs left t last
 
 -- slot t has been served, if it is awake
-pub record SlotDone (releases deadlines ranks arrivals left table : List ℕ) (t : ℕ) (left' table' : List ℕ) (bits next gone u : ℕ) : Type 0 where
-  pub table_is : table' ≡ set table t (slot_byte (wakeful (get_or table t 0)) (chosen (spans_of releases deadlines) (wakeful (get_or table t 0)) t (state_of left)))
-  pub left_is : state_of left' ≡ after (state_of left) (chosen (spans_of releases deadlines) (wakeful (get_or table t 0)) t (state_of left))
+pub record SlotDone (jobs : OrderedJobs) (left table : List ℕ) (t : ℕ) (left' table' : List ℕ) (last' : Ready) : Type 0 where
+  pub table_is : table' ≡ set table t (slot_byte (wakeful (get_or table t 0)) (chosen (spans_of jobs.releases.now jobs.deadlines.now) (wakeful (get_or table t 0)) t (state_of left)))
+  pub left_is : state_of left' ≡ after (state_of left) (chosen (spans_of jobs.releases.now jobs.deadlines.now) (wakeful (get_or table t 0)) t (state_of left))
   pub left_long : length left' ≡ length left
-  pub ready : ReadyAt releases deadlines ranks arrivals left' (suc t) bits next gone u
+  pub ready : ReadyAt jobs.releases.now jobs.deadlines.now jobs.ranks.now jobs.arrivals.now left' (suc t) last'
 
 -- a table can be run through
-pub record Runnable (releases deadlines ranks arrivals left table : List ℕ) : Type 0 where
+pub record Runnable (jobs : OrderedJobs) (left table : List ℕ) : Type 0 where
   pub short : length table < 65536
-  pub queued : Queued releases deadlines ranks arrivals left
+  pub room : Room jobs left
 
 -- the awake slots of the table from `first` on have been served
 pub record RunDone (F : Spans) (first : ℕ) (left table left' table' : List ℕ) : Type 0 where

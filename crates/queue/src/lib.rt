@@ -1,5 +1,5 @@
-// Who may run now, and runs of earliest deadline first over the awake slots of a table. `ranks` are the jobs by deadline, `arrivals` their ranks by
-// release; a set of ranks is a mask with a bit each.
+// Who may run now, and runs of earliest deadline first over the awake slots of a table. A rank is the place of a job by deadline; a set of ranks is a
+// mask with a bit each.
 #![tactic(auto)]
 
 ghost use Rattle.std.specs.Prelude.{◌≡◌, ◌&&◌, ◌*◌, ◌/◌, ◌^◌, ◌≤◌, ◌<◌, length, leb, ltb};
@@ -7,15 +7,17 @@ ghost use Rattle.sched.specs.Bits.{bit};
 ghost use Rattle.queue.specs.Ranks.{spans_of};
 ghost use Rattle.queue.specs.Serving.{CanServe, Serves, CanServeLowest, ServesLowest};
 ghost use Rattle.queue.specs.Arrivals.{comes_at, goes_at, or_beyond};
-ghost use Rattle.queue.specs.Runs.{Reached, Known, Expirable, Expired, Arrivable, Arrived, Lesser, Lookable, Looked, SlotReady, SlotDone, Runnable, RunDone, Units};
+ghost use Rattle.queue.specs.Runs.{Expirable, Expired, Arrivable, Arrived, Lookable, Looked, SlotReady, SlotDone, Runnable, RunDone, Units};
 
+use orders::OrderedJobs;
 use sched::{ASLEEP, IDLE};
 
 // A slot behind every table.
+// kept: an Option in place of it would need a second test in each slot, and reads no plainer.
 const BEYOND: usize = 65536;
 
 // The ranks that wait, a bit each, when the first `next` of `arrivals` have come and the first `gone` ranks have expired; it is so up to slot `until`.
-#[derive(Drop)]
+#[derive(Clone, Copy)]
 pub struct Ready {
     pub mask: u64,
     pub next: usize,
@@ -24,60 +26,52 @@ pub struct Ready {
 }
 
 // The ranks that wait when the first `next` of `arrivals` have come.
-#[derive(Drop)]
+#[derive(Clone, Copy)]
 struct Coming {
     mask: u64,
     next: usize,
 }
 
 // The byte of a slot, and the ranks that wait after it.
-#[derive(Drop)]
+#[derive(Clone, Copy)]
 pub struct Served {
     pub byte: u8,
     pub mask: u64,
 }
 
-fn wide(x: u16) -> usize
-    ensures { result ≡ x }
-{
-    x as usize
-}
-
 // When the rank at place i of `arrivals` is released.
-fn release_at(i: usize, releases: &[u16], ranks: &[u8], arrivals: &[u8]) -> usize
-    requires { i < length releases.now → Reached releases.now ranks.now arrivals.now i }
-    ensures { result ≡ or_beyond (length releases.now) (comes_at releases.now ranks.now arrivals.now) i }
+fn release_at(jobs: &OrderedJobs<'_>, i: usize) -> usize
+    ensures { result ≡ or_beyond (length jobs.now.releases.now) (comes_at jobs.now.releases.now jobs.now.ranks.now jobs.now.arrivals.now) i }
 {
-    if i < releases.len() {
-        let rank = arrivals[i] as usize;
-        let job = ranks[rank] as usize;
-        return wide(releases[job]);
+    match jobs.release_at(i) {
+        Some(release) => release as usize,
+        None => BEYOND,
     }
-    BEYOND
 }
 
 // When rank k expires.
-fn deadline_at(k: usize, deadlines: &[u16], ranks: &[u8]) -> usize
-    requires { k < length deadlines.now → Known deadlines.now ranks.now k }
-    ensures { result ≡ or_beyond (length deadlines.now) (goes_at deadlines.now ranks.now) k }
+fn deadline_at(jobs: &OrderedJobs<'_>, k: usize) -> usize
+    ensures { result ≡ or_beyond (length jobs.now.deadlines.now) (goes_at jobs.now.deadlines.now jobs.now.ranks.now) k }
 {
-    if k < deadlines.len() {
-        let job = ranks[k] as usize;
-        return wide(deadlines[job]);
+    if k < jobs.ranks.len() {
+        let job = jobs.ranks[k] as usize;
+        return jobs.deadlines[job] as usize;
     }
     BEYOND
 }
 
 // How many ranks have expired by slot t, of which the first `gone` are known.
-fn expire(t: usize, gone: usize, deadlines: &[u16], ranks: &[u8]) -> usize
-    requires { Expirable deadlines.now ranks.now t gone }
-    ensures { Expired deadlines.now ranks.now t gone result }
+fn expire(jobs: &OrderedJobs<'_>, t: usize, gone: usize) -> usize
+    requires { Expirable jobs.now t gone }
+    ensures { Expired jobs.now t gone result }
 {
-    let mut k = gone;
-    while deadline_at(k, deadlines, ranks) <= t {
-        k += 1;
+    let n = jobs.ranks.len();
+    for k in gone..n {
+        if t < deadline_at(jobs, k) {
+            return k;
+        }
     }
-    k
+    n
 }
 
 // The mask without the ranks below k.
@@ -107,62 +101,50 @@ fn joining(rank: usize, gone: usize, units: u16) -> u64
 
 // The ranks that are released by slot t join the mask.
 fn arrive(
+    jobs: &OrderedJobs<'_>,
     t: usize,
     mask: u64,
     next: usize,
     gone: usize,
-    releases: &[u16],
-    ranks: &[u8],
-    arrivals: &[u8],
     left: &[u16],
 ) -> Coming
-    requires { Arrivable releases.now ranks.now arrivals.now left.now t mask next gone }
-    ensures { Arrived releases.now ranks.now arrivals.now left.now t result.mask result.next gone }
+    requires { Arrivable jobs.now left.now t mask next gone }
+    ensures { Arrived jobs.now left.now t result.mask result.next gone }
 {
+    let n = jobs.arrivals.len();
     let mut bits = mask;
-    let mut i = next;
-    while release_at(i, releases, ranks, arrivals) <= t {
-        let rank = arrivals[i] as usize;
-        let job = ranks[rank] as usize;
+    for i in next..n {
+        if t < release_at(jobs, i) {
+            return Coming {
+                mask: bits,
+                next: i,
+            };
+        }
+        let rank = jobs.arrivals[i] as usize;
+        let job = jobs.ranks[rank] as usize;
         bits += joining(rank, gone, left[job]);
-        i += 1;
     }
     Coming {
         mask: bits,
-        next: i,
+        next: n,
     }
 }
 
-// The lesser of two slots.
-fn least(a: usize, b: usize) -> usize
-    ensures { Lesser a b result }
-{
-    if a < b { a } else { b }
-}
-
 // What slot t may serve, from what an earlier slot might.
-fn look(
-    t: usize,
-    last: Ready,
-    releases: &[u16],
-    deadlines: &[u16],
-    ranks: &[u8],
-    arrivals: &[u8],
-    left: &[u16],
-) -> Ready
-    requires { Lookable releases.now deadlines.now ranks.now arrivals.now left.now t last.mask last.next last.gone last.until }
-    ensures { Looked releases.now deadlines.now ranks.now arrivals.now left.now t result.mask result.next result.gone result.until }
+fn look(jobs: &OrderedJobs<'_>, t: usize, last: Ready, left: &[u16]) -> Ready
+    requires { Lookable jobs.now left.now t last }
+    ensures { Looked jobs.now left.now t result }
 {
-    let gone = expire(t, last.gone, deadlines, ranks);
+    let gone = expire(jobs, t, last.gone);
     let kept = drop_below(last.mask, gone);
-    let coming = arrive(t, kept, last.next, gone, releases, ranks, arrivals, left);
-    let release = release_at(coming.next, releases, ranks, arrivals);
-    let deadline = deadline_at(gone, deadlines, ranks);
+    let coming = arrive(jobs, t, kept, last.next, gone, left);
+    let release = release_at(jobs, coming.next);
+    let deadline = deadline_at(jobs, gone);
     Ready {
         mask: coming.mask,
         next: coming.next,
         gone,
-        until: least(release, deadline),
+        until: release.min(deadline),
     }
 }
 
@@ -194,68 +176,41 @@ fn serve_lowest(mask: u64, left: &mut [u16], ranks: &[u8]) -> Served
             mask: 0,
         };
     }
-    serve(u64::trailing_zeros(mask) as usize, mask, left, ranks)
+    serve(mask.trailing_zeros() as usize, mask, left, ranks)
 }
 
 // What slot t may serve: as it was last, or looked at anew.
-pub fn current(
-    t: usize,
-    last: Ready,
-    releases: &[u16],
-    deadlines: &[u16],
-    ranks: &[u8],
-    arrivals: &[u8],
-    left: &[u16],
-) -> Ready
-    requires { Lookable releases.now deadlines.now ranks.now arrivals.now left.now t last.mask last.next last.gone last.until }
-    ensures { Looked releases.now deadlines.now ranks.now arrivals.now left.now t result.mask result.next result.gone result.until }
+pub fn current(jobs: &OrderedJobs<'_>, t: usize, last: Ready, left: &[u16]) -> Ready
+    requires { Lookable jobs.now left.now t last }
+    ensures { Looked jobs.now left.now t result }
 {
     if t < last.until {
         return last;
     }
-    look(t, last, releases, deadlines, ranks, arrivals, left)
+    look(jobs, t, last, left)
 }
 
 // Serves slot t if it is awake.
-fn slot(
-    t: usize,
-    last: Ready,
-    releases: &[u16],
-    deadlines: &[u16],
-    ranks: &[u8],
-    arrivals: &[u8],
-    left: &mut [u16],
-    table: &mut [u8],
-) -> Ready
-    requires { SlotReady releases.now deadlines.now ranks.now arrivals.now left.old table.old t last.mask last.next last.gone last.until }
-    ensures { SlotDone releases.now deadlines.now ranks.now arrivals.now left.old table.old t left.new table.new result.mask result.next result.gone result.until }
+fn slot(jobs: &OrderedJobs<'_>, t: usize, last: Ready, left: &mut [u16], table: &mut [u8]) -> Ready
+    requires { SlotReady jobs.now left.old table.old t last }
+    ensures { SlotDone jobs.now left.old table.old t left.new table.new result }
 {
     if table[t] == ASLEEP {
         return last;
     }
-    let fresh = current(t, last, releases, deadlines, ranks, arrivals, left);
-    let served = serve_lowest(fresh.mask, left, ranks);
+    let fresh = current(jobs, t, last, left);
+    let served = serve_lowest(fresh.mask, left, jobs.ranks);
     table[t] = served.byte;
     Ready {
         mask: served.mask,
-        next: fresh.next,
-        gone: fresh.gone,
-        until: fresh.until,
+        ..fresh
     }
 }
 
 // Serves the awake slots of a table from slot `first` on, in rising order; what is not served stays in left.
-pub fn run(
-    first: usize,
-    releases: &[u16],
-    deadlines: &[u16],
-    ranks: &[u8],
-    arrivals: &[u8],
-    left: &mut [u16],
-    table: &mut [u8],
-)
-    requires { Runnable releases.now deadlines.now ranks.now arrivals.now left.old table.old }
-    ensures { RunDone (spans_of releases.now deadlines.now) first left.old table.old left.new table.new }
+pub fn run(jobs: &OrderedJobs<'_>, first: usize, left: &mut [u16], table: &mut [u8])
+    requires { Runnable jobs.now left.old table.old }
+    ensures { RunDone (spans_of jobs.now.releases.now jobs.now.deadlines.now) first left.old table.old left.new table.new }
 {
     let mut last = Ready {
         mask: 0,
@@ -263,10 +218,8 @@ pub fn run(
         gone: 0,
         until: 0,
     };
-    let mut t = first;
-    while t < table.len() {
-        last = slot(t, last, releases, deadlines, ranks, arrivals, left, table);
-        t += 1;
+    for t in first..table.len() {
+        last = slot(jobs, t, last, left, table);
     }
 }
 

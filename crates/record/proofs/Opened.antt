@@ -1,28 +1,19 @@
 -- A record that passes the checks, taken apart as the code does: h is its horizon, and its slot bytes begin at `behind`.
+use Rattle.std.specs.Prelude.{Ok}
 use Prim.Native.Nat.{ℕ, ◌-◌, ◌*◌, ◌≤◌}
 use mathlib.Core.Path.{◌≡◌, ap}
 use mathlib.Core.List.{List}
 use native.Mathlib.Omega.{arith}
 use lib.ListN.{length, take, drop}
 use Rattle.sched.specs.TwoBytes.{word}
-use Rattle.sched.specs.declared.Checked.TheVariants.{Passed}
 use Rattle.record_map.specs.MapBytes.{map_length}
 use Rattle.record_parts.specs.Layout.{behind_map}
 use Rattle.record_parts.specs.Bytes.{map_in, record_check}
 use Rattle.record_parts.proofs.Bytes.Laws.{GoodRecord, record_passed, length_map_read}
 
-pub header_within : (bytes : List ℕ) → record_check bytes ≡ Passed → 2 ≤ length bytes
-header_within bytes p = omega (arith, (record_passed bytes p).whole)
-
-module _ (bytes : List ℕ) (p : record_check bytes ≡ Passed) (h : ℕ) (e : h ≡ word bytes) (behind : ℕ) (f : behind ≡ behind_map h) where
+module _ (bytes : List ℕ) (p : record_check bytes ≡ Ok tt) (h : ℕ) (e : h ≡ word bytes) (behind : ℕ) (f : behind ≡ behind_map h) where
   good : GoodRecord bytes
   good = record_passed bytes p
-
-  pub behind_within : behind ≤ length bytes
-  behind_within = omega (arith, good.whole)
-
-  pub horizon_few : (h ≤ 4096) × (behind ≤ 4096)
-  horizon_few = (omega (arith, good.high), omega (arith, good.high))
 
   pub map_is : take (behind - 2) (drop 2 bytes) ≡ map_in (word bytes) bytes
   map_is =

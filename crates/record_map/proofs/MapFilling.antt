@@ -14,31 +14,22 @@ use Rattle.record_map.proofs.Stored.Laws.{Filling, filling_start, filling_turn, 
 
 -- the map bytes from byte k on
 
-pub record Map (S : List Bool) (n : ℕ) (out₀ out : List ℕ) (k : ℕ) : Type 0 where
-  pub within : k ≤ n
-  pub filling : Filling out₀ (map_from n 0 S) out k (map_from (n - k) k S)
+abbrev pub Map : (S : List Bool) (n : ℕ) (out₀ out : List ℕ) (k : ℕ) → Type 0
+Map S n out₀ out k = Filling out₀ (map_from n 0 S) out k (map_from (n - k) k S)
 
 pub map_start : (S : List Bool) (n : ℕ) (out : List ℕ) → n ≤ length out → Map S n out out 0
-map_start S n out l =
-    record { within = omega arith; filling = rw sub-zero (filling_start out (map_from n 0 S) (rw length_map_from l)) }
+map_start S n out l = rw sub-zero (filling_start out (map_from n 0 S) (rw length_map_from l))
 
 module _ (S : List Bool) (n : ℕ) (out₀ out : List ℕ) (k : ℕ) (s : Map S n out₀ out k) where
-  next_byte : k < n → Filling out₀ (map_from n 0 S) out k (bits 8 (8 * k) S ∷ map_from (n - (k + 1)) (k + 1) S)
-  unfolding map_from
-  next_byte l = let i : n - k ≡ suc (n - (k + 1)) = omega arith in rw (add-one k) (rw (i, add-one k) at s.filling)
-
-  pub map_room : k < n → k < length out
-  map_room l = omega (arith, (next_byte l).room, (next_byte l).long)
-
   pub map_turn : (byte : ℕ) → k < n → byte ≡ bits 8 (8 * k) S → Map S n out₀ (set out k byte) (k + 1)
+  unfolding map_from
   map_turn byte l e =
-      record {
-        within = omega arith;
-        filling = filling_turn out₀ (map_from n 0 S) out k byte (map_from (n - (k + 1)) (k + 1) S) (rw e (next_byte l));
-      }
+      let i : n - k ≡ suc (n - (k + 1)) = omega arith in
+      let next : Filling out₀ (map_from n 0 S) out k (byte ∷ map_from (n - (k + 1)) (k + 1) S) = rw (e, add-one k) (rw (i, add-one k) at s) in
+      filling_turn out₀ (map_from n 0 S) out k byte (map_from (n - (k + 1)) (k + 1) S) next
 
   pub map_end : n ≤ length out₀ → n ≤ k → out ≡ stored (map_from n 0 S) out₀
   unfolding map_from
   map_end m l =
       let z : n - k ≡ 0 = omega arith in
-      filling_end out₀ (map_from n 0 S) out k (rw length_map_from m) (rw z at s.filling)
+      filling_end out₀ (map_from n 0 S) out k (rw length_map_from m) (rw z at s)

@@ -11,7 +11,7 @@ pub fn is_awake(bits: &[u8], t: usize) -> bool
     requires { t < 8 * length bits.now }
     ensures { result ≡ awake (bits_of bits.now) t }
 {
-    (bits[t / 8] >> ((t % 8) as u32)) % 2 == 1
+    (bits[t / 8] >> (t % 8)) % 2 == 1
 }
 
 // The ones of the map, which are the slot bytes behind it.
@@ -19,13 +19,7 @@ pub fn count(bits: &[u8]) -> usize
     requires { length bits.now ≤ 512 }
     ensures { result ≡ total (map ones bits.now) }
 {
-    let mut n: usize = 0;
-    let mut k = 0;
-    while k < bits.len() {
-        n += u8::count_ones(bits[k]) as usize;
-        k += 1;
-    }
-    n
+    bits.iter().map(|byte| byte.count_ones() as usize).sum()
 }
 
 // Whether a bit from slot h on stands.
@@ -33,12 +27,10 @@ pub fn has_padding(bits: &[u8], h: usize) -> bool
     requires { length bits.now ≤ 512 }
     ensures { result ≡ some_bit (drop h (bits_of bits.now)) }
 {
-    let mut t = h;
-    while t < 8 * bits.len() {
+    for t in h..8 * bits.len() {
         if is_awake(bits, t) {
             return true;
         }
-        t += 1;
     }
     false
 }
@@ -48,12 +40,5 @@ pub fn end(bits: &[u8], h: usize, from: usize, awake: bool) -> usize
     requires { (from ≤ h) × (h ≤ 4096) × (h ≤ 8 * length bits.now) }
     ensures { StretchEnd (take h (bits_of bits.now)) h from awake result }
 {
-    let mut t = from;
-    while t < h {
-        if is_awake(bits, t) != awake {
-            return t;
-        }
-        t += 1;
-    }
-    t
+    sched::stretch_end(h, from, awake, |t| is_awake(bits, t))
 }

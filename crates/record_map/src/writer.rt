@@ -13,13 +13,10 @@ use sched::ASLEEP;
 fn bit(slots: &[u8], t: usize) -> u8
     ensures { result ≡ bit (awake (awake_of slots.now) t) }
 {
-    if t < slots.len() {
-        if slots[t] == ASLEEP {
-            return 0;
-        }
-        return 1;
+    match slots.get(t) {
+        Some(&byte) => u8::from(byte != ASLEEP),
+        None => 0,
     }
-    0
 }
 
 // The map byte of the eight slots from first on, the first of them in bit 0.
@@ -28,9 +25,7 @@ fn map_byte(slots: &[u8], first: usize) -> u8
     ensures { result ≡ bits 8 first (awake_of slots.now) }
 {
     let mut byte: u8 = 0;
-    let mut k: usize = 8;
-    while 0 < k {
-        k -= 1;
+    for k in (0..8).rev() {
         byte = 2 * byte + bit(slots, first + k);
     }
     byte
@@ -41,12 +36,9 @@ pub fn count_awake(slots: &[u8]) -> usize
     requires { length slots.now ≤ 4096 }
     ensures { result ≡ total (map ones (map_bytes_of (awake_of slots.now))) }
 {
-    let n = (slots.len() + 7) / 8;
     let mut awake: usize = 0;
-    let mut k = 0;
-    while k < n {
-        awake += u8::count_ones(map_byte(slots, 8 * k)) as usize;
-        k += 1;
+    for k in 0..slots.len().div_ceil(8) {
+        awake += map_byte(slots, 8 * k).count_ones() as usize;
     }
     awake
 }
@@ -56,10 +48,7 @@ pub fn fill_map(slots: &[u8], map: &mut [u8])
     requires { (length slots.now ≤ 4096) × (map_length (length slots.now) ≤ length map.old) }
     ensures { map.new ≡ stored (map_bytes_of (awake_of slots.now)) map.old }
 {
-    let n = (slots.len() + 7) / 8;
-    let mut k = 0;
-    while k < n {
+    for k in 0..slots.len().div_ceil(8) {
         map[k] = map_byte(slots, 8 * k);
-        k += 1;
     }
 }

@@ -9,7 +9,7 @@ use Rattle.sched.specs.Slots.{awake_of}
 use Rattle.sched.specs.Energy.{awake_slots}
 use Rattle.record_map.specs.MapBytes.{map_length, map_bytes_of}
 use Rattle.record_map.proofs.MapBytes.Laws.{length_map_of, ones_of_slots}
-use Rattle.record_parts.specs.Layout.{slot_bytes, record_of}
+use Rattle.record_parts.specs.Layout.{behind_map, slot_bytes, record_of}
 
 -- a slot byte more, or none
 pub slot_awake : (x : ℕ) (slots : List ℕ) → (x ≡ 255 → ⊥) → slot_bytes (x ∷ slots) ≡ x ∷ slot_bytes slots
@@ -38,6 +38,7 @@ length_record h slots =
       length_slot_bytes slots,
     )
 
--- the length of the record, from the ones of its map
-pub record_size : (h : ℕ) (slots : List ℕ) (awake : ℕ) → awake ≡ total (map ones (map_bytes_of (awake_of slots))) → 2 + map_length (length slots) + awake ≡ length (record_of h slots)
-record_size h slots awake e = omega (arith, length_record h slots, ones_of_slots slots)
+-- the length of the record, from where its slot bytes begin and the ones of its map
+pub record_size : (h : ℕ) (slots : List ℕ) (behind : ℕ) → behind ≡ behind_map (length slots) → (awake : ℕ) →
+    awake ≡ total (map ones (map_bytes_of (awake_of slots))) → behind + awake ≡ length (record_of h slots)
+record_size h slots behind b awake e = omega (arith, length_record h slots, ones_of_slots slots)

@@ -1,20 +1,15 @@
 -- A buffer that is filled piece by piece, each piece by a function that is lent the part from behind the last one.
 use Prim.Native.Nat.{ℕ, ◌-◌, ◌≤◌}
-use mathlib.Core.Path.{◌≡◌, refl, sym, ap, ◌∙◌}
-use mathlib.Core.List.{List, [], ◌∷◌, ◌++◌, append_assoc, append-nil}
+use mathlib.Core.Path.{◌≡◌, sym, ap, ◌∙◌}
+use mathlib.Core.List.{List, [], ◌++◌, append_assoc, append-nil}
 use native.Mathlib.Omega.{arith}
 use borrow.Rule.Slice.PartMut.{mid_of, put_mid, post_of, Post-is}
-use lib.ListN.{length, set, take, drop, length-append, length-drop, drop_of_length-le}
+use lib.ListN.{length, take, drop, length-append, length-drop, drop_of_length-le}
 use lib.Seq.{take_all, take_at, drop_at, drop-drop}
 use Rattle.record_map.specs.Stored.{stored}
 
 pub length_stored : (bytes out : List ℕ) → length bytes ≤ length out → length (stored bytes out) ≡ length out
 length_stored bytes out l = simp (length-append, length-drop) (omega arith)
-
-pub two_stores : (out : List ℕ) (a b : ℕ) → 2 ≤ length out → set (set out 0 a) 1 b ≡ stored (a ∷ b ∷ []) out
-two_stores [] a b l = absurd (omega arith)
-two_stores (x ∷ []) a b l = absurd (omega arith)
-two_stores (x ∷ y ∷ out) a b l = refl
 
 -- the part from a on
 pub part_is : (out : List ℕ) (a : ℕ) → mid_of a (length out - a) out ≡ drop a out

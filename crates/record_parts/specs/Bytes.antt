@@ -1,5 +1,5 @@
 -- 02, card 2: plan records, whose layout 01 gives: the checks of any bytes, and the table that they hold.
-use Rattle.std.specs.Prelude.{ℕ, ◌+◌, ◌*◌, ◌≤◌, Bool, true, false, not, ◌&&◌, List, [], ◌∷◌, map, length, get_or, take, drop, leb, ltb, eqb}
+use Rattle.std.specs.Prelude.{ℕ, ◌+◌, ◌*◌, ◌≤◌, Bool, true, false, not, ◌&&◌, List, [], ◌∷◌, map, length, get_or, take, drop, leb, ltb, eqb, Ok}
 use Rattle.std.specs.Int.Count.{ones}
 use Rattle.sched.specs.Bounded.{total}
 use Rattle.sched.specs.TwoBytes.{word}
@@ -7,11 +7,10 @@ use Rattle.sched.specs.Slots.{idle, asleep}
 use Rattle.sched.specs.Energy.{awake_slots}
 use Rattle.sched.specs.Checks.{refuse_if, and_then, horizon_check, ByteCheck, bytes_by}
 use Rattle.sched.specs.declared.Refusal.TheVariants.{Truncated, LeftOver, PaddingBit, BadSlotByte}
-use Rattle.sched.specs.declared.Checked.{Checked}
-use Rattle.sched.specs.declared.Checked.TheVariants.{Passed}
 use Rattle.record_map.specs.MapBytes.{map_length}
 use Rattle.record_map.specs.MapBits.{bits_of, some_bit}
 use Rattle.record_parts.specs.Layout.{behind_map}
+use Rattle.sched.specs.Refusals.{Checked}
 
 -- the map bytes of a record for h slots
 abbrev pub map_in : ℕ → List ℕ → List ℕ
@@ -31,14 +30,14 @@ slot_byte_count h bytes = total (map ones (map_in h bytes))
 
 -- 32, "one of the slot bytes is neither 0 to 63 nor 254", "at its offset"
 abbrev pub slot_byte_check : ByteCheck
-slot_byte_check at byte = refuse_if (leb 64 byte && not (eqb byte idle)) (BadSlotByte at) Passed
+slot_byte_check at byte = refuse_if (leb 64 byte && not (eqb byte idle)) (BadSlotByte at) (Ok tt)
 
 -- "11 for the slot bytes, 32, 16", for so many slot bytes from an offset on
 abbrev pub slot_bytes_check : ℕ → ℕ → List ℕ → Checked
 slot_bytes_check from count bytes =
     refuse_if (ltb (length bytes) (from + count)) (Truncated (length bytes))
     (and_then (bytes_by slot_byte_check count from bytes)
-    (refuse_if (ltb (from + count) (length bytes)) (LeftOver (from + count)) Passed))
+    (refuse_if (ltb (from + count) (length bytes)) (LeftOver (from + count)) (Ok tt)))
 
 -- "11 for the map, 31, 11 for the slot bytes, 32, 16"; 31 is "at the map's last byte, a padding bit stands"
 abbrev pub body_check : ℕ → List ℕ → Checked

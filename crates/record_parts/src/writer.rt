@@ -1,6 +1,5 @@
 // A record that is written: the horizon, the map and the slot bytes, one behind the other.
 ghost use Rattle.std.specs.Prelude.{◌≡◌, ◌≤◌, length};
-ghost use Rattle.sched.specs.TwoBytes.{two_bytes};
 ghost use Rattle.record_map.specs.Stored.{stored};
 ghost use Rattle.record_parts.specs.Layout.{behind_map, slot_bytes, front_of, record_of, RecordFits};
 
@@ -12,25 +11,12 @@ fn fill_slots(slots: &[u8], out: &mut [u8])
     ensures { out.new ≡ stored (slot_bytes slots.now) out.old }
 {
     let mut at = 0;
-    let mut t = 0;
-    while t < slots.len() {
-        if slots[t] == ASLEEP {
-            t += 1;
-        } else {
-            out[at] = slots[t];
+    for &byte in slots {
+        if byte != ASLEEP {
+            out[at] = byte;
             at += 1;
-            t += 1;
         }
     }
-}
-
-// The horizon in two bytes, low first.
-fn put_horizon(h: u16, out: &mut [u8])
-    requires { 2 ≤ length out.old }
-    ensures { out.new ≡ stored (two_bytes h) out.old }
-{
-    out[0] = (h % 256) as u8;
-    out[1] = (h / 256) as u8;
 }
 
 // The horizon and the map.
@@ -38,7 +24,7 @@ fn fill_front(h: u16, slots: &[u8], out: &mut [u8])
     requires { (length slots.now ≤ 4096) × (behind_map (length slots.now) ≤ length out.old) }
     ensures { out.new ≡ stored (front_of h slots.now) out.old }
 {
-    put_horizon(h, out);
+    sched::put_word(h, 0, out);
     record_map::fill_map(slots, &mut out[2..]);
 }
 

@@ -1,4 +1,5 @@
 -- The writer's answer and output, from what the check of the output said.
+use Rattle.std.specs.Prelude.{Err, Ok, Result}
 use Prim.Native.Nat.{ℕ, ◌+◌, ◌≤◌, ◌<◌, min}
 use mathlib.Core.Path.{◌≡◌, refl, sym, ap, ap₂, ◌∙◌}
 use mathlib.Core.List.{List, [], ◌∷◌, ◌++◌, append-nil}
@@ -7,18 +8,14 @@ use native.Mathlib.Omega.{arith}
 use native.Mathlib.Decide.{dec_le}
 use lib.ListN.{length, take, drop, length-append}
 use lib.Seq.{sets-eq, length-take-le, take_all}
-use Rattle.sched.specs.Refusals.{number, place}
+use Rattle.sched.specs.Refusals.{number, place, Checked}
 use Rattle.sched.specs.Runs.{run_list_from}
 use Rattle.sched.specs.Checks.{length_check}
-use Rattle.sched.specs.declared.Checked.{Checked}
-use Rattle.sched.specs.declared.Checked.TheVariants.{Passed, Refused as Faulty}
 use Rattle.sched.specs.declared.Refusal.{Refusal}
 use Rattle.sched.specs.declared.PlanFigures.{PlanFigures}
 use Rattle.sched.specs.declared.Interval.{Interval}
 use Rattle.sched.specs.declared.Outcome.{Outcome}
 use Rattle.sched.specs.declared.Outcome.TheVariants.{Planned, Overloaded, Refused as RefusedOutcome}
-use Rattle.report.specs.declared.TextWritten.{TextWritten}
-use Rattle.report.specs.declared.TextWritten.TheVariants.{Written, Refused}
 use Rattle.sched.specs.Buffers.{PutAt}
 use Rattle.report.specs.Report.{plan_word, refused_word, line, lines_of, run_lines, text_of, text_check, text_answer, text_after, written_number, written_values, TextPromise}
 use Rattle.report.proofs.Putting.{ToPut, put_none, put_part}
@@ -35,7 +32,7 @@ text_put front rest out behind out₁ end out₂ room p q =
     q.stored ∙ sym t.stored ∙ sets-eq all out 0 (omega arith) ∙ ap (λ (k : ℕ). all ++ drop k out) (zero-add (length all))
 
 module _ (text out : List ℕ) (n : ℕ) (e : n ≡ length text) where
-  answers : (c : Checked) (answer : TextWritten) (after : List ℕ) → length_check (length out) n ≡ c → answer ≡ text_answer text c →
+  answers : (c : Checked) (answer : Result ℕ Refusal) (after : List ℕ) → length_check (length out) n ≡ c → answer ≡ text_answer text c →
       after ≡ text_after text out c → TextPromise text out answer after
   answers c answer after f a o =
       let tested : text_check text out ≡ c = ap (length_check (length out)) (sym e) ∙ f in
@@ -47,11 +44,11 @@ module _ (text out : List ℕ) (n : ℕ) (e : n ≡ length text) where
         bytes = o ∙ ap (text_after text out) (sym tested);
       }
 
-  pub no_room : (r : Refusal) → length_check (length out) n ≡ Faulty r → TextPromise text out (Refused r) out
-  no_room r f = answers (Faulty r) (Refused r) out f refl refl
+  pub no_room : (r : Refusal) → length_check (length out) n ≡ Err r → TextPromise text out (Err r) out
+  no_room r f = answers (Err r) (Err r) out f refl refl
 
-  pub has_room : (after : List ℕ) → length_check (length out) n ≡ Passed → after ≡ text ++ drop (length text) out → TextPromise text out (Written n) after
-  has_room after f o = answers Passed (Written n) after f (ap Written e) o
+  pub has_room : (after : List ℕ) → length_check (length out) n ≡ Ok tt → after ≡ text ++ drop (length text) out → TextPromise text out (Ok n) after
+  has_room after f o = answers (Ok tt) (Ok n) after f (ap Ok e) o
 
 -- the first h bytes of a table, or all of them
 
@@ -71,7 +68,7 @@ module _ (h k : ℕ) (table : List ℕ) (e : k ≡ min h (length table)) where
 
 -- the text of each outcome, from the line and the table that are handed on
 
-module _ (outcome : Outcome) (h : ℕ) (table out : List ℕ) (answer : TextWritten) (after : List ℕ) where
+module _ (outcome : Outcome) (h : ℕ) (table out : List ℕ) (answer : Result ℕ Refusal) (after : List ℕ) where
   pub planned_text : (f : PlanFigures) (k : ℕ) → outcome ≡ Planned f → k ≡ min h (length table) →
       TextPromise (line plan_word (f.energy ∷ f.awake ∷ f.runs ∷ f.added ∷ []) ++ run_lines (take k table)) out answer after →
       TextPromise (text_of outcome (take h table)) out answer after

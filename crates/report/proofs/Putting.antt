@@ -3,7 +3,6 @@ use Prim.Native.Nat.{ℕ, ◌+◌, ◌≤◌, ◌<◌}
 use mathlib.Core.Path.{◌≡◌, refl, sym, ap, ◌∙◌}
 use mathlib.Core.List.{List, [], ◌∷◌, ◌++◌}
 use native.Mathlib.Numerals.{add-one}
-use native.Mathlib.Nat.{zero-add}
 use native.Mathlib.Omega.{arith}
 use lib.ListN.{length, get_or, set, drop, length-set, length-append, drop_of_length-le}
 use lib.Seq.{sets, sets-eq, drop-cons}
@@ -37,23 +36,6 @@ module _ (out₀ : List ℕ) (at₀ : ℕ) (all out : List ℕ) (at : ℕ) where
 
   pub put_all : ToPut out₀ at₀ all out at [] → PutAt out₀ at₀ all at out
   put_all t = record { next = omega (arith, t.ends); stored = sym t.stored }
-
--- a word, byte by byte
-
-module _ (word out₀ : List ℕ) (at₀ : ℕ) (out : List ℕ) (at i : ℕ) (t : ToPut out₀ at₀ word out at (drop i word)) where
-  next_byte : i < length word → ToPut out₀ at₀ word out at ((get_or word i 0 ∷ []) ++ drop (i + 1) word)
-  next_byte l = rw (add-one, ← drop-cons word i 0 l) t
-
-  pub word_room : i < length word → at₀ + length word ≤ length out₀ → at < length out
-  word_room l room = omega (arith, put_room out₀ at₀ word out at (get_or word i 0 ∷ []) (drop (i + 1) word) (next_byte l) room)
-
-  pub word_turn : i < length word → ToPut out₀ at₀ word (set out at (get_or word i 0)) (at + 1) (drop (i + 1) word)
-  word_turn l =
-      put_part out₀ at₀ word out at (get_or word i 0 ∷ []) (drop (i + 1) word) (at + 1) (set out at (get_or word i 0)) (next_byte l)
-      (record { next = refl; stored = refl })
-
-  pub word_end : length word ≤ i → PutAt out₀ at₀ word at out
-  word_end l = put_all out₀ at₀ word out at (rw (← drop_of_length-le word l) t)
 
 -- a space and a number
 
@@ -97,9 +79,6 @@ module _ (values out₀ : List ℕ) (at₀ : ℕ) (out : List ℕ) (at i : ℕ) 
 pub record Sized (values : List ℕ) (n i : ℕ) : Type 0 where
   pub left : n + length (numbers (drop i values)) ≡ length (numbers values)
 
-pub sized_start : (values : List ℕ) → Sized values 0 0
-sized_start values = record { left = zero-add (length (numbers values)) }
-
 module _ (values : List ℕ) (n i : ℕ) (s : Sized values n i) where
   pub sized_turn : (x : ℕ) → i < length values → x ≡ length (digits (get_or values i 0)) → Sized values (n + (1 + x)) (i + 1)
   sized_turn x l e =
@@ -121,15 +100,9 @@ module _ (word values out : List ℕ) (at next : ℕ) (out₁ : List ℕ) (p : P
   behind_word : ToPut out at (line word values) out₁ next (numbers values ++ (10 ∷ []))
   behind_word = put_part out at (line word values) out at word (numbers values ++ (10 ∷ [])) next out₁ (put_none out at (line word values)) p
 
-  pub numbers_fit : next + length (numbers values) ≤ length out₁
-  numbers_fit = put_room out at (line word values) out₁ next (numbers values) (10 ∷ []) behind_word room
-
   module _ (end : ℕ) (out₂ : List ℕ) (q : PutAt out₁ next (numbers values) end out₂) where
     behind_numbers : ToPut out at (line word values) out₂ end (10 ∷ [])
     behind_numbers = put_part out at (line word values) out₁ next (numbers values) (10 ∷ []) end out₂ behind_word q
-
-    pub end_fits : end < length out₂
-    end_fits = omega (arith, put_room out at (line word values) out₂ end (10 ∷ []) [] behind_numbers room)
 
     pub line_put : PutAt out at (line word values) (end + 1) (set out₂ end 10)
     line_put =

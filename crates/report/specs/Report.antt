@@ -1,18 +1,15 @@
 -- 01, "Plans worked by hand", last paragraph: the text that a program prints of an outcome and its table; what the writer puts out for each
 -- lent output; and the number and values of each answer.
-use Rattle.std.specs.Prelude.{ℕ, ◌≤◌, ◌≡◌, List, [], ◌∷◌, ◌++◌, length, drop}
+use Rattle.std.specs.Prelude.{ℕ, ◌≤◌, ◌≡◌, List, [], ◌∷◌, ◌++◌, length, drop, Err, Ok, Result}
 use Rattle.sched.specs.Slots.{awake_of}
 use Rattle.sched.specs.Runs.{Run, run_list}
-use Rattle.sched.specs.Refusals.{number, place}
+use Rattle.sched.specs.Refusals.{number, place, Checked}
 use Rattle.sched.specs.Checks.{length_check}
 use Rattle.sched.specs.Answers.{outcome_number, outcome_values}
-use Rattle.sched.specs.declared.Checked.{Checked}
-use Rattle.sched.specs.declared.Checked.TheVariants.{Passed, Refused as Faulty}
 use Rattle.sched.specs.declared.Outcome.{Outcome}
 use Rattle.sched.specs.declared.Outcome.TheVariants.{Planned, Overloaded, Refused as RefusedOutcome}
 use Rattle.decimal.specs.Decimal.{digits}
-use Rattle.report.specs.declared.TextWritten.{TextWritten}
-use Rattle.report.specs.declared.TextWritten.TheVariants.{Written, Refused}
+use Rattle.sched.specs.declared.Refusal.{Refusal}
 pub mod Laws
 
 -- in ASCII: plan, run, refused
@@ -64,26 +61,26 @@ abbrev pub text_check : List ℕ → List ℕ → Checked
 text_check text out = length_check (length out) (length text)
 
 -- the answer: the text's length
-abbrev pub text_answer : List ℕ → Checked → TextWritten
-text_answer text Passed = Written (length text)
-text_answer text (Faulty r) = Refused r
+abbrev pub text_answer : List ℕ → Checked → Result ℕ Refusal
+text_answer text (Ok tt) = Ok (length text)
+text_answer text (Err r) = Err r
 
 -- the lent output afterwards: the text at its front, and a refusal changes no byte
 abbrev pub text_after : List ℕ → List ℕ → Checked → List ℕ
-text_after text out Passed = text ++ drop (length text) out
-text_after text out (Faulty r) = out
+text_after text out (Ok tt) = text ++ drop (length text) out
+text_after text out (Err r) = out
 
 -- 17 has 01's number with its place; 0 with the text's length is ours
-abbrev pub written_number : TextWritten → ℕ
-written_number (Written n) = 0
-written_number (Refused r) = number r
+abbrev pub written_number : Result ℕ Refusal → ℕ
+written_number (Ok n) = 0
+written_number (Err r) = number r
 
-abbrev pub written_values : TextWritten → List ℕ
-written_values (Written n) = n ∷ []
-written_values (Refused r) = place r ∷ []
+abbrev pub written_values : Result ℕ Refusal → List ℕ
+written_values (Ok n) = n ∷ []
+written_values (Err r) = place r ∷ []
 
 -- the promise for a text: number and values of the answer, its case, and every byte of the output
-pub record TextPromise (text out : List ℕ) (answer : TextWritten) (after : List ℕ) : Type 0 where
+pub record TextPromise (text out : List ℕ) (answer : Result ℕ Refusal) (after : List ℕ) : Type 0 where
   pub number : written_number answer ≡ written_number (text_answer text (text_check text out))
   pub values : written_values answer ≡ written_values (text_answer text (text_check text out))
   pub same : answer ≡ text_answer text (text_check text out)

@@ -9,10 +9,8 @@ fn numbers_size(values: &[u64]) -> usize
     ensures { result ≡ length (numbers values.now) }
 {
     let mut n = 0;
-    let mut i = 0;
-    while i < values.len() {
-        n += 1 + decimal::size(values[i]);
-        i += 1;
+    for &x in values {
+        n += 1 + decimal::size(x);
     }
     n
 }
@@ -29,14 +27,9 @@ fn put_word(word: &[u8], out: &mut [u8], at: usize) -> usize
     requires { at + length word.now ≤ length out.old }
     ensures { PutAt out.old at word.now result out.new }
 {
-    let mut place = at;
-    let mut i = 0;
-    while i < word.len() {
-        out[place] = word[i];
-        place += 1;
-        i += 1;
-    }
-    place
+    let end = at + word.len();
+    out[at..end].copy_from_slice(word);
+    end
 }
 
 // A space and a number.
@@ -44,7 +37,7 @@ fn put_number(x: u64, out: &mut [u8], at: usize) -> usize
     requires { at + length (32 ∷ digits x) ≤ length out.old }
     ensures { PutAt out.old at (32 ∷ digits x) result out.new }
 {
-    out[at] = 32;
+    out[at] = b' ';
     decimal::put(x, out, at + 1)
 }
 
@@ -53,10 +46,8 @@ fn put_numbers(values: &[u64], out: &mut [u8], at: usize) -> usize
     ensures { PutAt out.old at (numbers values.now) result out.new }
 {
     let mut place = at;
-    let mut i = 0;
-    while i < values.len() {
-        place = put_number(values[i], out, place);
-        i += 1;
+    for &x in values {
+        place = put_number(x, out, place);
     }
     place
 }
@@ -68,6 +59,6 @@ pub fn put(word: &[u8], values: &[u64], out: &mut [u8], at: usize) -> usize
 {
     let numbers_at = put_word(word, out, at);
     let end = put_numbers(values, out, numbers_at);
-    out[end] = 10;
+    out[end] = b'\n';
     end + 1
 }

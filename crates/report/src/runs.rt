@@ -18,14 +18,7 @@ fn end(table: &[u8], from: usize, awake: bool) -> usize
     requires { from ≤ length table.now }
     ensures { StretchEnd (awake_of table.now) (length table.now) from awake result }
 {
-    let mut t = from;
-    while t < table.len() {
-        if is_awake(table[t]) != awake {
-            return t;
-        }
-        t += 1;
-    }
-    t
+    sched::stretch_end(table.len(), from, awake, |t| is_awake(table[t]))
 }
 
 fn run_size(first: usize, slots: usize) -> usize
@@ -42,6 +35,7 @@ pub fn size(table: &[u8]) -> usize
 {
     let mut n = 0;
     let mut first = end(table, 0, false);
+    // kept: the walk goes from run to run, and the number of runs is not known before its end
     while first < table.len() {
         let behind = end(table, first, true);
         n += run_size(first, behind - first);
@@ -65,6 +59,7 @@ pub fn put(table: &[u8], out: &mut [u8], at: usize) -> usize
 {
     let mut place = at;
     let mut first = end(table, 0, false);
+    // kept: as in `size`
     while first < table.len() {
         let behind = end(table, first, true);
         place = put_run(first, behind - first, out, place);

@@ -1,8 +1,5 @@
 pub mod JobByJob
-pub mod Bytes
 pub mod Tally
-pub mod Copied
-pub mod Poured
 pub mod OnlyNumber
 pub mod Passes
 pub mod Bits
@@ -10,6 +7,8 @@ pub mod Bounded
 pub mod Buffers
 pub mod Cases
 pub mod Checks
+pub mod Copied
+pub mod Poured
 pub mod Energy
 pub mod Feasible
 pub mod Refusals

@@ -1,12 +1,10 @@
 -- 02, card 1: that only the number of a faulty job changed, for every list. It stands apart from its definitions (`specs/Theorems/OnlyNumber`), so that a
 -- wrong edit of them is refused here, by a fact.
 use Rattle.std.specs.Prelude.{ℕ, zero, suc, ◌≡◌, refl, not, List, length, get_or, eqb}
-use Rattle.std.proofs.Common.{◌∙◌}
 use Rattle.sched.specs.Checks.{refuse_if, and_then, horizon_check, count_check, job_check, check_from, jobs_check, list_check_by}
 use Rattle.sched.specs.Checks.{list_check, lists_check, checked_number, checked_values}
 use Rattle.sched.proofs.Theorems.RefusesJob.{other_horizon, other_count}
 use Rattle.sched.proofs.Theorems.OnlyNumber.{job_check_before, OnlyNumber, coarse, coarse_number, if_coarse, then_coarse, other_same, job_coarse}
-use Rattle.sched.specs.declared.Checked.{Checked}
 use Rattle.sched.specs.declared.Refusal.TheVariants.{Unequal}
 
 walk_coarse : (k j h : ℕ) (rs ds ps : List ℕ) → check_from job_check_before k j h rs ds ps ≡ coarse (check_from job_check k j h rs ds ps)

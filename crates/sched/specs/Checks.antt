@@ -1,13 +1,11 @@
 -- 01, "Words of the plan", second paragraph: when a list passes the list checks; and "Refused, and where" with 02's card 1: the order in
 -- which planner, judge, list writer and the search for the tightest interval find a fault, 12 for H, 19, 12 for the count, then 25, 15 or 26 for
 -- the lowest faulty job. The checks of H, of a length and of a table's bytes stand by themselves, because others make them too.
-use Rattle.std.specs.Prelude.{ℕ, zero, suc, ◌≤◌, ◌<◌, ◌≡◌, Bool, true, false, not, ◌&&◌, List, [], ◌∷◌, length, get_or, leb, ltb, eqb}
+use Rattle.std.specs.Prelude.{ℕ, zero, suc, ◌≤◌, ◌<◌, ◌≡◌, Bool, true, false, not, ◌&&◌, List, [], ◌∷◌, length, get_or, leb, ltb, eqb, Err, Ok}
 use Rattle.sched.specs.Jobs.{Jobs, count, release, deadline, volume}
-use Rattle.sched.specs.Refusals.{number, place}
+use Rattle.sched.specs.Refusals.{number, place, Checked}
 use Rattle.sched.specs.declared.Refusal.{Refusal}
 use Rattle.sched.specs.declared.Refusal.TheVariants.{OutOfRange, EmptySpan, TooShort, Unequal, BadByte, PastHorizon, NoVolume}
-use Rattle.sched.specs.declared.Checked.{Checked}
-use Rattle.sched.specs.declared.Checked.TheVariants.{Passed, Refused}
 
 -- "each job has r < d, d ≤ H and p of at least 1"
 pub record GoodJob (h r d p : ℕ) : Type 0 where
@@ -26,21 +24,21 @@ pub record Passes (J : Jobs) : Type 0 where
 
 -- a refusal if the test holds, else the rest of the checks
 abbrev pub refuse_if : Bool → Refusal → Checked → Checked
-refuse_if true r c = Refused r
+refuse_if true r c = Err r
 refuse_if false r c = c
 
 -- the first check that fails, or the rest
 abbrev pub and_then : Checked → Checked → Checked
-and_then Passed c = c
-and_then (Refused r) c = Refused r
+and_then (Ok tt) c = c
+and_then (Err r) c = Err r
 
 -- 12: "H outside 1 to 4,096 (place 0)"
 abbrev pub horizon_check : ℕ → Checked
-horizon_check h = refuse_if (eqb h 0) (OutOfRange 0) (refuse_if (ltb 4096 h) (OutOfRange 0) Passed)
+horizon_check h = refuse_if (eqb h 0) (OutOfRange 0) (refuse_if (ltb 4096 h) (OutOfRange 0) (Ok tt))
 
 -- 17: "a lent buffer or list is too short"
 abbrev pub length_check : ℕ → ℕ → Checked
-length_check have need = refuse_if (ltb have need) (TooShort need) Passed
+length_check have need = refuse_if (ltb have need) (TooShort need) (Ok tt)
 
 -- 12 for H and 17 for a table that comes without a list
 abbrev pub table_check : ℕ → ℕ → Checked
@@ -52,12 +50,12 @@ ByteCheck = ℕ → ℕ → Checked
 
 -- the k bytes from place t on, each by the same check
 unfoldable pub bytes_by : ByteCheck → ℕ → ℕ → List ℕ → Checked
-bytes_by check zero t bytes = Passed
+bytes_by check zero t bytes = Ok tt
 bytes_by check (suc k) t bytes = and_then (check t (get_or bytes t 0)) (bytes_by check k (suc t) bytes)
 
 -- 21, "here only 64 to 253": a byte that means nothing in any table
 abbrev pub byte_check : ByteCheck
-byte_check t byte = refuse_if (leb 64 byte && leb byte 253) (BadByte t) Passed
+byte_check t byte = refuse_if (leb 64 byte && leb byte 253) (BadByte t) (Ok tt)
 
 -- 21 for the k slots from slot t on
 abbrev pub bytes_from : ℕ → ℕ → List ℕ → Checked
@@ -76,11 +74,11 @@ abbrev pub job_check : JobCheck
 job_check h j r d p =
     refuse_if (ltb h d) (PastHorizon j)
     (refuse_if (leb d r) (EmptySpan j)
-    (refuse_if (eqb p 0) (NoVolume j) Passed))
+    (refuse_if (eqb p 0) (NoVolume j) (Ok tt)))
 
 -- the k jobs from number j on, each by the same check
 unfoldable pub check_from : JobCheck → ℕ → ℕ → ℕ → List ℕ → List ℕ → List ℕ → Checked
-check_from check zero j h rs ds ps = Passed
+check_from check zero j h rs ds ps = Ok tt
 check_from check (suc k) j h rs ds ps =
     and_then (check h j (get_or rs j 0) (get_or ds j 0) (get_or ps j 0)) (check_from check k (suc j) h rs ds ps)
 
@@ -90,7 +88,7 @@ jobs_check check h rs ds ps = check_from check (length rs) 0 h rs ds ps
 
 -- 12: "more than 64 jobs (place 4)"
 abbrev pub count_check : ℕ → Checked
-count_check n = refuse_if (ltb 64 n) (OutOfRange 4) Passed
+count_check n = refuse_if (ltb 64 n) (OutOfRange 4) (Ok tt)
 
 -- the three lengths, the count, the jobs
 abbrev pub lists_check : JobCheck → ℕ → List ℕ → List ℕ → List ℕ → Checked
@@ -112,12 +110,12 @@ check_of J = list_check J.horizon J.releases J.deadlines J.volumes
 
 -- a refusal has 01's number with its place; that a check which passes has the number 0, with no value, is ours
 abbrev pub checked_number : Checked → ℕ
-checked_number Passed = 0
-checked_number (Refused r) = number r
+checked_number (Ok tt) = 0
+checked_number (Err r) = number r
 
 abbrev pub checked_values : Checked → List ℕ
-checked_values Passed = []
-checked_values (Refused r) = place r ∷ []
+checked_values (Ok tt) = []
+checked_values (Err r) = place r ∷ []
 
 -- the promise of a check: the number and the values that come back are those of the definition, and so is the case
 pub record CheckPromise (wanted answer : Checked) : Type 0 where

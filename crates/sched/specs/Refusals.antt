@@ -1,5 +1,5 @@
 -- 01, "Refused, and where", and 02: the returned number and the place of each refusal.
-use Rattle.std.specs.Prelude.{ℕ}
+use Rattle.std.specs.Prelude.{ℕ, Result}
 use Rattle.sched.specs.declared.Refusal.{Refusal}
 use Rattle.sched.specs.declared.Refusal.TheVariants.{Truncated, OutOfRange, UnknownBit, Redundant, EmptySpan, LeftOver, TooShort, Unequal, BadByte, TooOften, OutOfSpan, TooRare, PastHorizon, NoVolume, PaddingBit, BadSlotByte, NoSuchRun, NoJobs}
 
@@ -42,3 +42,7 @@ place (PaddingBit at) = at
 place (BadSlotByte at) = at
 place (NoSuchRun at) = at
 place (NoJobs at) = at
+
+-- the answer of a check: it passes, or the first fault
+abbrev pub Checked : Type 0
+Checked = Result (Unit {0}) Refusal

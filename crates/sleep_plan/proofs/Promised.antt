@@ -1,4 +1,5 @@
 -- From what the reader, the planner and the block's functions promise to what the entry promises, return by return.
+use Rattle.std.specs.Prelude.{Err, Ok}
 use Prim.Native.Nat.{ℕ, ◌≤◌, ◌<◌}
 use mathlib.Core.Path.{◌≡◌, sym, ap, subst, ◌∙◌}
 use mathlib.Core.Bool.{false}
@@ -11,7 +12,6 @@ use Rattle.sched.specs.Jobs.{Jobs}
 use Rattle.sched.specs.Checks.{Passes}
 use Rattle.sched.specs.Answers.{outcome_values}
 use Rattle.sched.specs.declared.Refusal.{Refusal}
-use Rattle.sched.specs.declared.Checked.TheVariants.{Passed, Refused as Faulty}
 use Rattle.sched.specs.declared.Outcome.{Outcome}
 use Rattle.laws_rivals.specs.Rivals.{AgainstRivals, CheapestSleep, CountsWoken}
 use Rattle.planner.specs.Promises.{PlanPromise}
@@ -29,7 +29,7 @@ use Rattle.sleep_plan.specs.Promises.{as_call, CallPromise}
 use Rattle.sleep_plan.proofs.Answers.{plan_fits, outcome_numbers, against, counts, reports_back}
 
 -- the bytes of a list that passes the list checks are read, to that list
-spelled_reads : (J : Jobs) (list : List ℕ) → Passes J → list ≡ spelling J → bytes_check list ≡ Passed
+spelled_reads : (J : Jobs) (list : List ℕ) → Passes J → list ≡ spelling J → bytes_check list ≡ Ok tt
 spelled_reads J list p e = rw e (spelling_read J 64 64 64 p (record { releases = p.few; deadlines = p.few; volumes = p.few }))
 
 spelled_is : (J : Jobs) (list : List ℕ) → J.start ≡ false → Passes J → list ≡ spelling J → list_of list ≡ J
@@ -53,7 +53,7 @@ promise_short list table block l =
     }
 
 -- a list that the reader refuses
-pub promise_refused : (list table block block' : List ℕ) (n : ℕ) (r : Refusal) → block_length ≤ length block → bytes_check list ≡ Faulty r → Puts (number r) (place r ∷ []) block n block' → CallPromise list table block n table block'
+pub promise_refused : (list table block block' : List ℕ) (n : ℕ) (r : Refusal) → block_length ≤ length block → bytes_check list ≡ Err r → Puts (number r) (place r ∷ []) block n block' → CallPromise list table block n table block'
 promise_refused list table block block' n r l f puts =
     let a = answer_refused list table r f in
     let e = sym (entry_answers list table block l ∙ ap (λ (x : Answer). in_block x block) a) in
@@ -75,7 +75,7 @@ promise_refused list table block block' n r l f puts =
     }
 
 -- a list that was read; J is what the planner was handed
-pub promise_planned : (list table block table' block' : List ℕ) (n : ℕ) (o : Outcome) (J : Jobs) → AreBytes list → block_length ≤ length block → bytes_check list ≡ Passed → J ≡ list_of list → PlanPromise J table o table' → PutsOutcome o block n block' → CallPromise list table block n table' block'
+pub promise_planned : (list table block table' block' : List ℕ) (n : ℕ) (o : Outcome) (J : Jobs) → AreBytes list → block_length ≤ length block → bytes_check list ≡ Ok tt → J ≡ list_of list → PlanPromise J table o table' → PutsOutcome o block n block' → CallPromise list table block n table' block'
 promise_planned list table block table' block' n o J small l p same promise puts =
     let K = list_of list in
     let passes = read_list_passes list 64 64 64 small p in

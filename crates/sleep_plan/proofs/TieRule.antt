@@ -1,17 +1,13 @@
 -- 02, card 6, of the call: what the tie rule leaves as it was, in the words of `specs/TieRule`.
-use Rattle.std.specs.Prelude.{ℕ, ◌≡◌, refl, Bool, true, false, List, [], ◌∷◌, length, drop, ltb}
+use Rattle.std.specs.Prelude.{ℕ, refl, Bool, true, false, List, length, ltb, Err, Ok}
 use Rattle.std.proofs.Common.{ap}
-use Rattle.sched.specs.Refusals.{number, place}
-use Rattle.sched.specs.Slots.{awake_of, working_of}
+use Rattle.sched.specs.Refusals.{Checked}
 use Rattle.sched.specs.Answers.{outcome_number, outcome_values}
-use Rattle.sched.specs.declared.Checked.{Checked}
-use Rattle.sched.specs.declared.Checked.TheVariants.{Passed, Refused as Faulty}
 use Rattle.sched.specs.declared.Outcome.{Outcome}
-use Rattle.laws_rivals.specs.TieRule.{plan_before}
 use Rattle.laws_rivals.proofs.TieRule.WholePlan.{ties_as_before}
 use Rattle.joblist.specs.Reading.{list_of}
 use Rattle.sleep_plan.specs.Block.{block_length, answered}
-use Rattle.sleep_plan.specs.Entry.{Answer, answer_of, after_read, bytes_check, call_answer, Entry, in_block, entry}
+use Rattle.sleep_plan.specs.Entry.{after_read, bytes_check, call_answer, Entry, in_block, entry}
 use Rattle.sleep_plan.specs.TieRule.{after_read_before, entry_before, CallAsBefore}
 
 unchanged : (list : List ℕ) (e : Entry) → CallAsBefore list e e
@@ -19,8 +15,8 @@ unchanged list e = record { same_number = refl; same_block = refl; same_working 
 
 -- behind the check of the block
 answer_as_before : (c : Checked) (list table block : List ℕ) → CallAsBefore list (in_block (after_read_before c list table) block) (in_block (after_read c list table) block)
-answer_as_before (Faulty r) list table block = unchanged list (in_block (after_read (Faulty r) list table) block)
-answer_as_before Passed list table block =
+answer_as_before (Err r) list table block = unchanged list (in_block (after_read (Err r) list table) block)
+answer_as_before (Ok tt) list table block =
     let s = ties_as_before (list_of list) table in
     record {
       same_number = ap outcome_number s.same_answer;

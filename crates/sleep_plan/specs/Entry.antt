@@ -1,10 +1,8 @@
 -- 01, "Refused, and where", last paragraph: what a call from C returns, and what the table and the block hold afterwards, for every input.
-use Rattle.std.specs.Prelude.{ℕ, true, false, List, [], ◌∷◌, length, ltb}
-use Rattle.sched.specs.Refusals.{number, place}
+use Rattle.std.specs.Prelude.{ℕ, true, false, List, [], ◌∷◌, length, ltb, Err, Ok}
+use Rattle.sched.specs.Refusals.{number, place, Checked}
 use Rattle.steps.specs.Outcomes.{Plan, plan}
 use Rattle.sched.specs.Answers.{outcome_number, outcome_values}
-use Rattle.sched.specs.declared.Checked.{Checked}
-use Rattle.sched.specs.declared.Checked.TheVariants.{Passed, Refused as Faulty}
 use Rattle.joblist.specs.Reading.{read_check, list_of}
 use Rattle.sleep_plan.specs.Block.{block_length, answered}
 pub mod Laws
@@ -20,8 +18,8 @@ answer_of p = record { number = outcome_number p.answer; values = outcome_values
 
 -- "After the list has been read without refusal, planning begins."
 abbrev pub after_read : Checked → List ℕ → List ℕ → Answer
-after_read (Faulty r) list table = record { number = number r; values = place r ∷ []; table = table }
-after_read Passed list table = answer_of (plan (list_of list) table)
+after_read (Err r) list table = record { number = number r; values = place r ∷ []; table = table }
+after_read (Ok tt) list table = answer_of (plan (list_of list) table)
 
 -- the entry lends the reader three lists of 64, so it can read every list
 abbrev pub bytes_check : List ℕ → Checked

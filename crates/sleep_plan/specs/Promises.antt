@@ -1,9 +1,8 @@
 -- What `sleep_plan` promises: the equations for everything that a call gives back; demand 3, that no table in which the same slots work costs less, and
 -- what `added` counts, in terms of what a caller in C sees.
-use Rattle.std.specs.Prelude.{ℕ, ◌≤◌, ◌<◌, ◌≡◌, false, List, length, get_or, take}
+use Rattle.std.specs.Prelude.{ℕ, ◌≤◌, ◌<◌, ◌≡◌, false, List, length, get_or, take, Ok}
 use Rattle.sched.specs.Jobs.{Jobs}
 use Rattle.sched.specs.Checks.{Passes}
-use Rattle.sched.specs.declared.Checked.TheVariants.{Passed}
 use Rattle.laws_rivals.specs.Rivals.{Answered, AgainstRivals, CheapestSleep, CountsWoken}
 use Rattle.joblist.specs.Bytes.{spelling}
 use Rattle.joblist.specs.Reading.{list_of}
@@ -29,7 +28,7 @@ pub record CallPromise (list lent_table lent_block : List ℕ) (r : ℕ) (table'
   -- demand 3: the bytes spell a list that passes the list checks, the table is long enough, the block has 16 bytes or more
   pub rivals : (J : Jobs) → J.start ≡ false → Passes J → list ≡ spelling J → J.horizon ≤ length lent_table → block_length ≤ length lent_block → AgainstRivals J (as_call r block') (take J.horizon table')
   -- the same for bytes that the reader takes, which spell the list that it reads
-  pub rivals_of_bytes : bytes_check list ≡ Passed → (list_of list).horizon ≤ length lent_table → block_length ≤ length lent_block → AgainstRivals (list_of list) (as_call r block') (take (list_of list).horizon table')
+  pub rivals_of_bytes : bytes_check list ≡ Ok tt → (list_of list).horizon ≤ length lent_table → block_length ≤ length lent_block → AgainstRivals (list_of list) (as_call r block') (take (list_of list).horizon table')
   -- 02, card 5: whenever 0 comes back, the block's first number is the energy of the table handed back, and no table in which the same slots work costs less
   pub cheapest : (J : Jobs) → J.start ≡ false → Passes J → list ≡ spelling J → CheapestSleep J (as_call r block') (take J.horizon table')
   -- the same for any bytes

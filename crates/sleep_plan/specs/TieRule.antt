@@ -1,10 +1,8 @@
 -- 02, card 6, seen from C: for every list of bytes, every table and every block, the number that comes back and the block are those from before the card,
 -- and in the table the same slots work and are awake. What a call gave before the card is defined here, to be compared with.
-use Rattle.std.specs.Prelude.{ℕ, ◌≡◌, true, false, List, [], ◌∷◌, length, drop, ltb}
-use Rattle.sched.specs.Refusals.{number, place}
+use Rattle.std.specs.Prelude.{ℕ, ◌≡◌, true, false, List, [], ◌∷◌, length, drop, ltb, Err, Ok}
+use Rattle.sched.specs.Refusals.{number, place, Checked}
 use Rattle.sched.specs.Slots.{awake_of, working_of}
-use Rattle.sched.specs.declared.Checked.{Checked}
-use Rattle.sched.specs.declared.Checked.TheVariants.{Passed, Refused as Faulty}
 use Rattle.laws_rivals.specs.TieRule.{plan_before}
 use Rattle.joblist.specs.Reading.{list_of}
 use Rattle.sleep_plan.specs.Block.{block_length}
@@ -13,8 +11,8 @@ use Rattle.sleep_plan.specs.Entry.{Answer, answer_of, bytes_check, Entry, in_blo
 -- Before the card
 
 abbrev pub after_read_before : Checked → List ℕ → List ℕ → Answer
-after_read_before (Faulty r) list table = record { number = number r; values = place r ∷ []; table = table }
-after_read_before Passed list table = answer_of (plan_before (list_of list) table)
+after_read_before (Err r) list table = record { number = number r; values = place r ∷ []; table = table }
+after_read_before (Ok tt) list table = answer_of (plan_before (list_of list) table)
 
 abbrev pub entry_before : List ℕ → List ℕ → List ℕ → Entry
 entry_before list table block =

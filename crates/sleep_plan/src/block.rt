@@ -5,7 +5,7 @@ ghost use Rattle.sleep_plan.specs.Block.{block_length, four_bytes, answered};
 ghost use Rattle.sleep_plan.specs.Puts.{Puts, PutsRefused, PutsOutcome};
 ghost use Rattle.sched.specs.Refusals.{number, place};
 
-use joblist::ListRead;
+use joblist::ListHeader;
 use sched::{Outcome, Refusal};
 
 // The low four bytes of a number, low first.
@@ -13,10 +13,11 @@ fn put(x: usize, at: usize, block: &mut [u8])
     requires { at + 4 ≤ length block.old }
     ensures { block.new ≡ sets block.old at (four_bytes x) }
 {
-    block[at] = (x % 256) as u8;
-    block[at + 1] = (x / 256 % 256) as u8;
-    block[at + 2] = (x / 65536 % 256) as u8;
-    block[at + 3] = (x / 16777216 % 256) as u8;
+    let bytes = x.to_le_bytes();
+    block[at] = bytes[0];
+    block[at + 1] = bytes[1];
+    block[at + 2] = bytes[2];
+    block[at + 3] = bytes[3];
 }
 
 fn put_numbers(w: usize, x: usize, y: usize, z: usize, block: &mut [u8])
@@ -39,13 +40,13 @@ fn put_refusal(r: Refusal, block: &mut [u8]) -> u32
 }
 
 // What the reader refused. A list that it took has nothing to tell.
-pub fn put_refused(read: ListRead, block: &mut [u8]) -> u32
+pub fn put_refused(read: Result<ListHeader, Refusal>, block: &mut [u8]) -> u32
     requires { block_length ≤ length block.old }
     ensures { PutsRefused read block.old result block.new }
 {
     match read {
-        ListRead::Read(_) => 0,
-        ListRead::Refused(r) => put_refusal(r, block),
+        Ok(_) => 0,
+        Err(r) => put_refusal(r, block),
     }
 }
 

@@ -1,6 +1,7 @@
 -- An event of the pass: the next rank comes.
 use Prim.Native.Nat.{ℕ, suc, ◌+◌, ◌^◌, ◌≤◌, ◌<◌}
 use mathlib.Core.Path.{◌≡◌}
+use mathlib.Core.Bool.{Bool}
 use mathlib.Core.List.{List}
 use mathlib.Core.Logic.{◌≢◌}
 use native.Mathlib.Decide.{dec_lt, ℕ_discrete}
@@ -13,68 +14,70 @@ use Rattle.laws_edf.specs.Search.{state_of}
 use Rattle.laws_edf.specs.Orders.{Sorted, rank_release}
 use Rattle.laws_edf.proofs.Orders.Laws.{places_differ}
 use Rattle.queue.specs.Arrivals.{comes_at, waits, Come}
-use Rattle.queue.specs.Runs.Reads.{reads}
 use Rattle.queue.specs.Mask.{mask}
 use Rattle.queue.specs.Mask.Laws.{mask_joins, mask_lt}
 use Rattle.step1_overload.specs.Pass.{never, Joinable, Joined, PassAt, Turned}
 use Rattle.step1_overload.proofs.Waiting.{comes_joins}
+use Rattle.step1_overload.proofs.ToCome.{list_of}
+use Rattle.orders.specs.declared.ordered_jobs.OrderedJobs.{OrderedJobs}
+use Rattle.step1_overload.specs.declared.Pass.{Pass}
 
 module _
-    {J : Jobs} {ranks arrivals left : List ℕ} {t bits next coming end : ℕ} (s : PassAt J ranks arrivals left t bits next coming end)
-    (more : t < never) (now : coming ≤ t) where
-  arriving : Sorted (count J) (rank_release J.releases ranks) arrivals
-  arriving = s.orders.by_release
+    {jobs : OrderedJobs} {h q : ℕ} {start : Bool} {volumes left : List ℕ} {p : Pass} (s : PassAt (list_of jobs h q start volumes) jobs left p)
+    (more : p.t < never) (now : p.coming ≤ p.t) where
+  abbrev J : Jobs
+  J = list_of jobs h q start volumes
 
-  some_next : next < count J
-  some_next = go (dec_lt next (count J))
+  arriving : Sorted (count J) (rank_release J.releases jobs.ranks.now) jobs.arrivals.now
+  arriving = jobs.orders.by_release
+
+  some_next : p.next < count J
+  some_next = go (dec_lt p.next (count J))
     where
-      go : Dec (next < count J) → next < count J
+      go : Dec (p.next < count J) → p.next < count J
       go (yes l) = l
       go (no l) = absurd (omega (arith, s.coming_is.gone (omega arith), more))
 
-  joined : mask (waits ranks arrivals (suc next) 0 (state_of left)) (count J) ≡ bits + 2 ^ get_or arrivals next 0
+  joined : mask (waits jobs.ranks.now jobs.arrivals.now (suc p.next) 0 (state_of left)) (count J) ≡ p.waiting + 2 ^ get_or jobs.arrivals.now p.next 0
   joined =
-      let once : (i : ℕ) → i < next → get_or arrivals i 0 ≢ get_or arrivals next 0 = λ i l. places_differ arriving i next (omega (arith, some_next)) some_next (λ e. omega arith) in
-      let j = comes_joins ranks arrivals next (count J) (state_of left) once (s.fresh next (omega arith) some_next) in
-      omega (arith, s.came.bits_are, mask_joins (count J) _ _ (get_or arrivals next 0) j (arriving.known next some_next))
+      let once : (i : ℕ) → i < p.next → get_or jobs.arrivals.now i 0 ≢ get_or jobs.arrivals.now p.next 0 = λ i l. places_differ arriving i p.next (omega (arith, some_next)) some_next (λ e. omega arith) in
+      let j = comes_joins jobs.ranks.now jobs.arrivals.now p.next (count J) (state_of left) once (s.fresh p.next (omega arith) some_next) in
+      omega (arith, s.came.bits_are, mask_joins (count J) _ _ (get_or jobs.arrivals.now p.next 0) j (arriving.known p.next some_next))
 
-  pub can_arrive : Joinable J.releases ranks arrivals bits next
+  pub can_arrive : Joinable jobs p
   can_arrive =
       let few = s.passes.few in
-      let p : 2 ^ count J ≤ 2 ^ 64 = pow_mono {i = count J} {j = 64} few in
+      let wide : 2 ^ count J ≤ 2 ^ 64 = pow_mono {i = count J} {j = 64} few in
       record {
-        reachable = record { each = reads s.orders };
         more = some_next;
-        rank = omega (arith, arriving.known next some_next, few);
-        fits = omega (arith, joined, mask_lt (waits ranks arrivals (suc next) 0 (state_of left)) (count J) 0);
+        fits = omega (arith, joined, mask_lt (waits jobs.ranks.now jobs.arrivals.now (suc p.next) 0 (state_of left)) (count J) 0);
       }
 
-  module _ (t' bits' next' coming' end' : ℕ) (a : Joined J.releases ranks arrivals t bits next end t' bits' next' coming' end') where
-    came : Come J.releases ranks arrivals left t bits' (next + 1) 0
+  module _ {p' : Pass} (a : Joined jobs p p') where
+    came : Come jobs.releases.now jobs.ranks.now jobs.arrivals.now left p.t p'.waiting (p.next + 1) 0
     came = record {
       most = omega (arith, some_next);
-      bits_are = rw (add-one next) (omega (arith, a.bits_are, joined));
-      by_now = λ i l. go i l (ℕ_discrete i next);
+      bits_are = rw (add-one p.next) (omega (arith, a.waiting_is, joined));
+      by_now = λ i l. go i l (ℕ_discrete i p.next);
     }
       where
-        go : (i : ℕ) → i < next + 1 → Dec (i ≡ next) → comes_at J.releases ranks arrivals i ≤ t
+        go : (i : ℕ) → i < p.next + 1 → Dec (i ≡ p.next) → comes_at J.releases jobs.ranks.now jobs.arrivals.now i ≤ p.t
         go i l (yes q) = rw q (omega (arith, s.coming_is.here some_next))
         go i l (no q) = s.came.by_now i (omega arith)
 
-    ahead : t ≤ coming'
-    ahead = go (dec_lt next' (count J))
+    ahead : p.t ≤ p'.coming
+    ahead = go (dec_lt p'.next (count J))
       where
-        go : Dec (next' < count J) → t ≤ coming'
+        go : Dec (p'.next < count J) → p.t ≤ p'.coming
         go (yes l) =
-            let rises = (arriving.rising next next' (omega (arith, a.next_is)) l).sooner in
+            let rises = (arriving.rising p.next p'.next (omega (arith, a.next_is)) l).sooner in
             omega (arith, a.coming_is.here l, rises, s.ahead, s.coming_is.here some_next)
         go (no l) = omega (arith, a.coming_is.gone (omega arith), more)
 
-    pub arrive_turn : Turned J ranks arrivals left t next coming left t' bits' next' coming' end'
+    pub arrive_turn : Turned J jobs left p left p'
     arrive_turn = record {
       pass = record {
         passes = s.passes;
-        orders = s.orders;
         long = s.long;
         came = rw (a.t_is, a.next_is) came;
         coming_is = a.coming_is;

@@ -6,8 +6,9 @@
 ghost use Rattle.sched.specs.Jobs.{Jobs};
 ghost use Rattle.orders.specs.Lists.{ListsOf};
 ghost use Rattle.step1_overload.specs.Search.{Asked, Answers, StartFor};
-ghost use Rattle.step1_overload.specs.Pass.{Reachable, NextComes, Joinable, Joined, EndAfter, Turnable, TurnDone, LeastEnd};
+ghost use Rattle.step1_overload.specs.Pass.{NextComes, Joinable, Joined, EndAfter, Turnable, TurnDone, LeastEnd};
 
+use orders::OrderedJobs;
 use sched::Interval;
 
 // A slot behind every other.
@@ -16,15 +17,9 @@ const NEVER: u32 = 16777216;
 // Behind every deadline.
 const NO_END: u16 = 65535;
 
-#[derive(Drop)]
-pub enum Shown {
-    Nothing,
-    At(Interval),
-}
-
 // The slots before t are served. The ranks that wait have a bit each; the first `next` of `arrivals` have come, and the next one comes at slot
 // `coming`. `end` is the least deadline that a job was finished behind.
-#[derive(Drop)]
+#[derive(Clone, Copy)]
 struct Pass {
     t: u32,
     waiting: u64,
@@ -34,32 +29,27 @@ struct Pass {
 }
 
 // When the rank at place i of `arrivals` is released.
-fn comes_at(i: usize, releases: &[u16], ranks: &[u8], arrivals: &[u8]) -> u32
-    requires { Reachable releases.now ranks.now arrivals.now }
-    ensures { NextComes releases.now ranks.now arrivals.now i result }
+fn comes_at(jobs: &OrderedJobs<'_>, i: usize) -> u32
+    ensures { NextComes jobs.now i result }
 {
-    if i < releases.len() {
-        let rank = arrivals[i] as usize;
-        let job = ranks[rank] as usize;
-        return releases[job] as u32;
+    match jobs.release_at(i) {
+        Some(release) => release as u32,
+        None => NEVER,
     }
-    NEVER
 }
 
 // The next rank comes.
-fn arrive(last: Pass, releases: &[u16], ranks: &[u8], arrivals: &[u8]) -> Pass
-    requires { Joinable releases.now ranks.now arrivals.now last.waiting last.next }
-    ensures { Joined releases.now ranks.now arrivals.now last.t last.waiting last.next last.end result.t result.waiting result.next result.coming result.end }
+fn arrive(jobs: &OrderedJobs<'_>, last: Pass) -> Pass
+    requires { Joinable jobs.now last }
+    ensures { Joined jobs.now last result }
 {
-    let at = last.next;
-    let rank = arrivals[at] as u32;
-    let next = at + 1;
+    let rank = jobs.arrivals[last.next] as u32;
+    let next = last.next + 1;
     Pass {
-        t: last.t,
         waiting: last.waiting + (1u64 << rank),
         next,
-        coming: comes_at(next, releases, ranks, arrivals),
-        end: last.end,
+        coming: comes_at(jobs, next),
+        ..last
     }
 }
 
@@ -68,50 +58,35 @@ fn end_after(end: u16, deadline: u16, t: u32) -> u16
     ensures { EndAfter end deadline t result }
 {
     if (deadline as u32) < t {
-        if deadline < end {
-            return deadline;
-        }
-        return end;
+        end.min(deadline)
+    } else {
+        end
     }
-    end
 }
 
 // From one event to the next: a rank comes, no rank waits, or the lowest is served until the next one comes or its last unit is done.
-fn turn(
-    last: Pass,
-    releases: &[u16],
-    deadlines: &[u16],
-    ranks: &[u8],
-    arrivals: &[u8],
-    left: &mut [u16],
-) -> Pass
-    requires { Turnable releases.now deadlines.now ranks.now arrivals.now left.old last.t last.waiting last.next last.coming last.end }
-    ensures { TurnDone releases.now deadlines.now ranks.now arrivals.now left.old last.t last.waiting last.next last.coming last.end left.new result.t result.waiting result.next result.coming result.end }
+fn turn(jobs: &OrderedJobs<'_>, last: Pass, left: &mut [u16]) -> Pass
+    requires { Turnable jobs.now left.old last }
+    ensures { TurnDone jobs.now left.old last left.new result }
 {
     if last.coming <= last.t {
-        return arrive(last, releases, ranks, arrivals);
+        return arrive(jobs, last);
     }
     if last.waiting == 0 {
         return Pass {
             t: last.coming,
-            waiting: 0,
-            next: last.next,
-            coming: last.coming,
-            end: last.end,
+            ..last
         };
     }
-    let rank = u64::trailing_zeros(last.waiting);
-    let job = ranks[rank as usize] as usize;
+    let rank = last.waiting.trailing_zeros();
+    let job = jobs.ranks[rank as usize] as usize;
     let units = left[job] as u32;
     let room = last.coming - last.t;
     if room < units {
         left[job] = (units - room) as u16;
         return Pass {
             t: last.coming,
-            waiting: last.waiting,
-            next: last.next,
-            coming: last.coming,
-            end: last.end,
+            ..last
         };
     }
     left[job] = 0;
@@ -119,58 +94,43 @@ fn turn(
     Pass {
         t,
         waiting: last.waiting - (1u64 << rank),
-        next: last.next,
-        coming: last.coming,
-        end: end_after(last.end, deadlines[job], t),
+        end: end_after(last.end, jobs.deadlines[job], t),
+        ..last
     }
 }
 
 // The least end of an overloaded interval, or one behind the horizon.
-fn least_end(
-    releases: &[u16],
-    deadlines: &[u16],
-    volumes: &[u16],
-    ranks: &[u8],
-    arrivals: &[u8],
-) -> u16
-    requires { Asked releases.now deadlines.now volumes.now ranks.now arrivals.now }
-    ensures { (J : Jobs) → ListsOf J releases.now deadlines.now volumes.now → LeastEnd J result }
+fn least_end(jobs: &OrderedJobs<'_>, volumes: &[u16]) -> u16
+    requires { Asked jobs.now volumes.now }
+    ensures { (J : Jobs) → ListsOf J jobs.now.releases.now jobs.now.deadlines.now volumes.now → LeastEnd J result }
 {
     let mut left = queue::units(volumes);
     let mut pass = Pass {
         t: 0,
         waiting: 0,
         next: 0,
-        coming: comes_at(0, releases, ranks, arrivals),
+        coming: comes_at(jobs, 0),
         end: NO_END,
     };
+    // kept: the loop ends with the last event, and no counter says how many there are
     while pass.t < NEVER {
-        pass = turn(pass, releases, deadlines, ranks, arrivals, &mut left);
+        pass = turn(jobs, pass, &mut left);
     }
     pass.end
 }
 
 // The greatest release from which the jobs that are due by b overfill the slots up to b, or 0.
-fn start_for(
-    b: u16,
-    releases: &[u16],
-    deadlines: &[u16],
-    volumes: &[u16],
-    ranks: &[u8],
-    arrivals: &[u8],
-) -> usize
-    requires { Asked releases.now deadlines.now volumes.now ranks.now arrivals.now }
-    ensures { StartFor b releases.now deadlines.now volumes.now ranks.now arrivals.now result }
+fn start_for(b: u16, jobs: &OrderedJobs<'_>, volumes: &[u16]) -> usize
+    requires { Asked jobs.now volumes.now }
+    ensures { StartFor b jobs.now volumes.now result }
 {
     let mut sum: u32 = 0;
-    let mut at = arrivals.len();
-    while 0 < at {
-        at -= 1;
-        let rank = arrivals[at] as usize;
-        let job = ranks[rank] as usize;
-        if deadlines[job] <= b {
+    for at in (0..jobs.arrivals.len()).rev() {
+        let rank = jobs.arrivals[at] as usize;
+        let job = jobs.ranks[rank] as usize;
+        if jobs.deadlines[job] <= b {
             sum += volumes[job] as u32;
-            let a = releases[job];
+            let a = jobs.releases[job];
             if ((b - a) as u32) < sum {
                 return a as usize;
             }
@@ -179,25 +139,17 @@ fn start_for(
     0
 }
 
-// The interval that step 1 shows, of a list that passes the checks, with its jobs by deadline and their ranks by release.
-pub fn find(
-    h: u16,
-    releases: &[u16],
-    deadlines: &[u16],
-    volumes: &[u16],
-    ranks: &[u8],
-    arrivals: &[u8],
-) -> Shown
-    requires { Asked releases.now deadlines.now volumes.now ranks.now arrivals.now }
-    ensures { Answers h releases.now deadlines.now volumes.now result }
+// The interval that step 1 shows, of a list that passes the checks, with its jobs in order.
+pub fn find(h: u16, jobs: &OrderedJobs<'_>, volumes: &[u16]) -> Option<Interval>
+    requires { Asked jobs.now volumes.now }
+    ensures { Answers h jobs.now.releases.now jobs.now.deadlines.now volumes.now result }
 {
-    let end = least_end(releases, deadlines, volumes, ranks, arrivals);
+    let end = least_end(jobs, volumes);
     if h < end {
-        return Shown::Nothing;
+        return None;
     }
-    let start = start_for(end, releases, deadlines, volumes, ranks, arrivals);
-    Shown::At(Interval {
-        a: start,
+    Some(Interval {
+        a: start_for(end, jobs, volumes),
         b: end as usize,
     })
 }

@@ -4,18 +4,18 @@ use mathlib.Core.Path.{◌≡◌, sym, ap, ◌∙◌}
 use mathlib.Core.Bool.{Bool, true, false, ◌&&◌, ◌||◌}
 use mathlib.Core.List.{List, ◌∷◌, map}
 use native.Mathlib.Numerals.{add-one}
-use native.Mathlib.Decide.{ℕ_discrete}
 use native.Mathlib.Omega.{arith}
-use lib.ListN.{length, get_or, drop, set, length-set, length-map, drop_of_length-le}
-use lib.Seq.{drop-cons, get_or-set_same, get_or-set_other}
+use Rattle.std.proofs.lemmas.List.{get_or-take, length-take-le}
+use lib.ListN.{length, get_or, drop, take, length-map, drop_of_length-le}
+use lib.Seq.{drop-cons}
 use lib.Dec.{leb, ltb, eqb}
-use borrow.Author.Tests.{lt-ltb, le-ltb, le-leb, lt-leb, eq-eqb, ne_eqb}
 use Rattle.sched.proofs.Bounded.Laws.{by_bool}
 use Rattle.sched.specs.Jobs.{Jobs}
 use Rattle.laws_skeleton.specs.Windows.{window_start}
 use Rattle.laws_skeleton.specs.Runs.{sleep_cost, through_cost, takes, run_end}
 use Rattle.laws_skeleton.proofs.Runs.Clauses.{sleep_none, sleep_wakes, sleep_skips, run_end_none, run_end_takes, run_end_keeps}
 use Rattle.orders.specs.Placing.{map_at}
+use Rattle.step2_skeleton.specs.declared.Ending.{Ending}
 use Rattle.step2_skeleton.specs.Places.{one_of, wins, SleepFrom, Rests, EndFrom}
 
 -- by place and by job
@@ -52,44 +52,25 @@ module _ (J : Jobs) (ranks starts : List ℕ) (e : starts ≡ map (window_start 
 abbrev pub Asleep : ℕ → List ℕ → List ℕ → ℕ → ℕ → ℕ → Type 0
 Asleep q starts numbers from s k =
     (J : Jobs) (ranks : List ℕ) → J.wake ≡ q → starts ≡ map (window_start J) ranks
-    → sleep_cost J s (drop from ranks) (drop from numbers) ≡ sleep_cost J s (drop k ranks) (drop k numbers)
+    → sleep_cost J s (drop from ranks) (drop from (take (length starts) numbers)) ≡ sleep_cost J s (drop k ranks) (drop k (take (length starts) numbers))
 
-module _ (q : ℕ) (starts numbers : List ℕ) (from s k : ℕ) (same : length numbers ≡ length starts) (a : Asleep q starts numbers from s k) where
+module _ (q : ℕ) (starts numbers : List ℕ) (from s k : ℕ) (room : length starts ≤ length numbers) (a : Asleep q starts numbers from s k) where
+  same : length (take (length starts) numbers) ≡ length starts
+  same = length-take-le (length starts) numbers room
+
   pub asleep_turn : k < length starts → get_or starts k 0 < s → Asleep q starts numbers from s (k + 1)
-  asleep_turn l m J ranks w e = a J ranks w e ∙ sleep_past J ranks starts e numbers same s k l m
+  asleep_turn l m J ranks w e = a J ranks w e ∙ sleep_past J ranks starts e (take (length starts) numbers) same s k l m
 
   pub asleep_found : k < length starts → s ≤ get_or starts k 0 → SleepFrom q starts numbers from s (q + get_or numbers k 0)
-  asleep_found l m J ranks w e = ap (λ (n : ℕ). n + get_or numbers k 0) (sym w) ∙ sym (a J ranks w e ∙ sleep_here J ranks starts e numbers same s k l m)
+  asleep_found l m J ranks w e =
+      ap (λ (n : ℕ). q + n) (sym (get_or-take (length starts) numbers k 0 l))
+      ∙ ap (λ (n : ℕ). n + get_or (take (length starts) numbers) k 0) (sym w)
+      ∙ sym (a J ranks w e ∙ sleep_here J ranks starts e (take (length starts) numbers) same s k l m)
 
   pub asleep_end : length starts ≤ k → SleepFrom q starts numbers from s 0
-  asleep_end m J ranks w e = sym (a J ranks w e ∙ sleep_over J ranks starts e numbers same s k m)
+  asleep_end m J ranks w e = sym (a J ranks w e ∙ sleep_over J ranks starts e (take (length starts) numbers) same s k m)
 
 -- the end of a run: another end loses or wins
-
-module _ (low c paid end through : ℕ) where
-  abbrev pub Picks : ℕ → ℕ → Type 0
-  Picks e t = (e ≡ one_of (wins low c paid end through) c end) × (t ≡ one_of (wins low c paid end through) paid through)
-
-  keeps : wins low c paid end through ≡ false → Picks end through
-  keeps e = (ap (λ (b : Bool). one_of b c end) (sym e), ap (λ (b : Bool). one_of b paid through) (sym e))
-
-  gives_way : wins low c paid end through ≡ true → Picks c paid
-  gives_way e = (ap (λ (b : Bool). one_of b c end) (sym e), ap (λ (b : Bool). one_of b paid through) (sym e))
-
-  pub too_early : c < low → Picks end through
-  too_early l = keeps (simp (lt-leb low c l))
-
-  pub dearer : low ≤ c → through < paid → Picks end through
-  dearer l m = keeps (simp (le-leb low c l, le-ltb paid through (omega arith), ne_eqb paid through (λ e. omega arith)))
-
-  pub as_late : low ≤ c → paid ≡ through → end ≤ c → Picks end through
-  as_late l e m = keeps (simp (le-leb low c l, le-ltb paid through (omega arith), eq-eqb paid through e, le-ltb c end m))
-
-  pub earlier : low ≤ c → paid ≡ through → c < end → Picks c paid
-  earlier l e m = gives_way (simp (le-leb low c l, le-ltb paid through (omega arith), eq-eqb paid through e, lt-ltb c end m))
-
-  pub cheaper : low ≤ c → paid < through → Picks c paid
-  cheaper l m = gives_way (simp (le-leb low c l, lt-ltb paid through m))
 
 module _ (J : Jobs) (js vs : List ℕ) (low end through c paid end' through' k : ℕ) (ks : List ℕ)
     (at : c ≡ suc (window_start J k)) (here : paid ≡ through_cost J js vs c) (best : through ≡ through_cost J js vs end)
@@ -133,22 +114,22 @@ Ended starts rests from low through₀ end through k =
     × (through ≡ through_cost J (drop from ranks) vs end)
 
 module _ (starts rests : List ℕ) (from low through₀ : ℕ) where
-  pub ended_turn : (end through k end' through' : ℕ) → from ≤ k → k < length starts
-      → end' ≡ one_of (wins low (get_or starts k 0 + 1) (get_or starts k 0 + 1 + get_or rests k 0) end through) (get_or starts k 0 + 1) end
-      → through' ≡ one_of (wins low (get_or starts k 0 + 1) (get_or starts k 0 + 1 + get_or rests k 0) end through)
-      (get_or starts k 0 + 1 + get_or rests k 0) through
-      → Ended starts rests from low through₀ end through k → Ended starts rests from low through₀ end' through' (k + 1)
-  ended_turn end through k end' through' f l a b m J ranks vs e r t =
+  pub ended_turn : (best best' : Ending) (k : ℕ) → from ≤ k → k < length starts → Ended starts rests from low through₀ best.end best.through k
+      → best'.end ≡ one_of (wins low (get_or starts k 0 + 1) (get_or starts k 0 + 1 + get_or rests k 0) best.end best.through) (get_or starts k 0 + 1) best.end
+      → best'.through ≡ one_of (wins low (get_or starts k 0 + 1) (get_or starts k 0 + 1 + get_or rests k 0) best.end best.through)
+      (get_or starts k 0 + 1 + get_or rests k 0) best.through
+      → Ended starts rests from low through₀ best'.end best'.through (k + 1)
+  ended_turn best best' k f l m a b J ranks vs e r t =
       let i = m J ranks vs e r t in
       let js = drop from ranks in
       let one : get_or starts k 0 + 1 ≡ suc (get_or starts k 0) = add-one (get_or starts k 0) in
       let at : get_or starts k 0 + 1 ≡ suc (window_start J (get_or ranks k 0)) = one ∙ ap suc (start_at J ranks starts e k l) in
       let paid : get_or starts k 0 + 1 + get_or rests k 0 ≡ through_cost J js vs (get_or starts k 0 + 1) =
       ap (λ (n : ℕ). get_or starts k 0 + 1 + n) (r k f l ∙ ap (λ (n : ℕ). sleep_cost J n js vs) (sym one)) in
-      let turn = end_turn J js vs low end through (get_or starts k 0 + 1) (get_or starts k 0 + 1 + get_or rests k 0) end' through' (get_or ranks k 0)
+      let turn = end_turn J js vs low best.end best.through (get_or starts k 0 + 1) (get_or starts k 0 + 1 + get_or rests k 0) best'.end best'.through (get_or ranks k 0)
       (drop (suc k) ranks) at paid i.1 a b in (
-        i.0 ∙ ap (run_end J js vs low end) (drop-cons ranks k 0 (omega (arith, starts_many J ranks starts e))) ∙ turn.0 ∙ ap
-            (λ (n : ℕ). run_end J js vs low end' (drop n ranks)) (sym (add-one k)),
+        i.0 ∙ ap (run_end J js vs low best.end) (drop-cons ranks k 0 (omega (arith, starts_many J ranks starts e))) ∙ turn.0 ∙ ap
+            (λ (n : ℕ). run_end J js vs low best'.end (drop n ranks)) (sym (add-one k)),
         turn.1,
       )
 
@@ -165,29 +146,6 @@ module _ (starts rests : List ℕ) (from low through₀ : ℕ) where
 
 pub record Waked (first cost : ℕ) (starts rests₀ rests : List ℕ) (k : ℕ) : Type 0 where
   pub within : k ≤ length starts
-  pub same : length rests ≡ length starts
-  pub kept : length rests ≡ length rests₀
+  pub many : length rests ≡ 64
   pub done : (j : ℕ) → j < k → get_or rests j 0 ≡ one_of (ltb (get_or starts j 0) first) cost (get_or rests₀ j 0)
   pub left : (j : ℕ) → k ≤ j → get_or rests j 0 ≡ get_or rests₀ j 0
-
-module _ (first cost : ℕ) (starts rests₀ : List ℕ) where
-  pub waked_turn : (rests : List ℕ) (k v : ℕ) → k < length starts → v ≡ one_of (ltb (get_or starts k 0) first) cost (get_or rests k 0)
-      → Waked first cost starts rests₀ rests k → Waked first cost starts rests₀ (set rests k v) (k + 1)
-  waked_turn rests k v l e m = record {
-    within = omega arith;
-    same = length-set rests k v ∙ m.same;
-    kept = length-set rests k v ∙ m.kept;
-    done = λ j b. go j b (ℕ_discrete j k);
-    left = λ j b. get_or-set_other rests k j v 0 (λ q. omega arith) ∙ m.left j (omega arith);
-  }
-    where
-      go : (j : ℕ) → j < k + 1 → Dec (j ≡ k) → get_or (set rests k v) j 0 ≡ one_of (ltb (get_or starts j 0) first) cost (get_or rests₀ j 0)
-      go j b (yes q) =
-          ap (λ (i : ℕ). get_or (set rests k v) i 0) q ∙ get_or-set_same rests k v 0 (omega (arith, m.same)) ∙ e
-          ∙ ap (λ (n : ℕ). one_of (ltb (get_or starts k 0) first) cost n) (m.left k (omega arith))
-          ∙ ap (λ (i : ℕ). one_of (ltb (get_or starts i 0) first) cost (get_or rests₀ i 0)) (sym q)
-      go j b (no n) = get_or-set_other rests k j v 0 n ∙ m.done j (omega arith)
-
-  pub waked_end : (rests : List ℕ) (k : ℕ) → length starts ≤ k → Waked first cost starts rests₀ rests k
-      → (j : ℕ) → j < length starts → get_or rests j 0 ≡ one_of (ltb (get_or starts j 0) first) cost (get_or rests₀ j 0)
-  waked_end rests k l m j b = m.done j (omega arith)

@@ -4,7 +4,7 @@ use mathlib.Core.Path.{◌≡◌, ap, sym, subst, ◌∙◌}
 use mathlib.Core.Bool.{Bool}
 use mathlib.Core.List.{List}
 use native.Mathlib.Omega.{arith}
-use lib.ListN.{length, replicate, length-replicate}
+use lib.ListN.{length, take}
 use Rattle.sched.specs.Bounded.{sum_below}
 use Rattle.sched.specs.Jobs.{Jobs, volume, total_volume}
 use Rattle.sched.specs.Slots.{awake, awake_of}
@@ -12,7 +12,7 @@ use Rattle.steps.specs.Skeleton.{is_skeleton, least_skeleton}
 use Rattle.steps.specs.Workable.{workable}
 use Rattle.steps.specs.Extension.{woken_in, woken, wake_all, extended}
 use Rattle.laws_edf.specs.Run.{State, Spans, spans, bytes, final}
-use Rattle.laws_edf.specs.Orders.{Orders}
+use Rattle.orders.specs.declared.ordered_jobs.OrderedJobs.{OrderedJobs}
 use Rattle.laws_edf.specs.Search.{state_of}
 use Rattle.laws_edf.proofs.Theorems.{workable_at_most_total, some_slot_wakes}
 use Rattle.laws_extension.specs.Chain.{Kept}
@@ -24,13 +24,11 @@ use Rattle.laws_extension.proofs.Waking.Full.{woken_count}
 use Rattle.queue.specs.Runs.{Runnable, RunDone, Units}
 use Rattle.queue.specs.Ranks.{spans_of}
 use Rattle.queue.specs.Runs.Whole.{whole_table, whole_left}
+use Rattle.step3_extend.proofs.Ends.{sum_in_front}
 use Rattle.step3_extend.specs.Turns.{Extending}
 use Rattle.step3_extend.specs.Beginning.{Extendable, EndsOf, Begun}
 
 module _ {J : Jobs} {releases deadlines volumes ranks table : List ℕ} (g : Extendable J releases deadlines volumes ranks table) where
-  pub volumes_few : length volumes ≤ 64
-  volumes_few = omega (arith, ap length g.volumes_are, g.passes.same_volumes, g.passes.few)
-
   spans_are : spans J ≡ spans_of releases deadlines
   spans_are =
       ap (λ (l : List ℕ). spans_of l J.deadlines) g.releases_are ∙ ap (spans_of releases) g.deadlines_are
@@ -45,16 +43,13 @@ module _ {J : Jobs} {releases deadlines volumes ranks table : List ℕ} (g : Ext
   begin_small table' same = omega (arith, same, lent_long, g.passes.high)
 
   module _ {units : List ℕ} (u : Units volumes units) where
-    pub begin_runnable : {arrivals : List ℕ} → Orders releases deadlines ranks arrivals → Runnable releases deadlines ranks arrivals units table
-    begin_runnable o =
-        let few : length releases ≤ 64 = omega (arith, ap length g.releases_are, g.passes.few) in
-        record {
-          short = omega (arith, lent_long, g.passes.high);
-          queued = record { orders = o; few = few; room = omega (arith, u.long) };
-        }
+    pub begin_runnable : (jobs : OrderedJobs) → jobs.releases.now ≡ releases → Runnable jobs units table
+    begin_runnable jobs e =
+        let few : length jobs.releases.now ≤ 64 = omega (arith, ap length e, ap length g.releases_are, g.passes.few) in
+        record { short = omega (arith, lent_long, g.passes.high); room = omega (arith, u.long) }
 
-    pub begin_room : (lost : List ℕ) → length lost ≡ length units → (length ranks ≤ 64) × (length ranks ≤ length lost)
-    begin_room lost same = (omega (arith, g.many, g.passes.few), omega (arith, g.many, g.passes.few, same, u.long))
+    pub begin_room : (lost : List ℕ) → length lost ≡ length units → length ranks ≤ length lost
+    begin_room lost same = omega (arith, g.many, g.passes.few, same, u.long)
 
     all_units : state_of units ≡ volume J
     all_units = u.same ∙ ap state_of (sym g.volumes_are)
@@ -75,20 +70,20 @@ module _ {J : Jobs} {releases deadlines volumes ranks table : List ℕ} (g : Ext
           ∙ ap (λ (n : ℕ). final (spans J) (awake (awake_of table)) n 0 (state_of units)) lent_long
           ∙ ap (final (spans J) (awake (awake_of table)) J.horizon 0) all_units
 
-      module _ {ends : List ℕ} (same : length ends ≡ length {A = ℕ} (replicate 64 0)) (last : EndsOf table' ends) {short : ℕ}
-          (sum : short ≡ sum_below (length ranks) (state_of lost)) where
+      module _ {ends : List ℕ} (same : length ends ≡ 64) (last : EndsOf table' ends) {short : ℕ}
+          (sum : short ≡ sum_below (length (take (length ranks) lost)) (state_of (take (length ranks) lost))) where
         kept : Kept J (awake_of table) table' lost ends
         kept =
             record {
               table_is = ran;
-              lost_long = omega (arith, (begin_room lost done.left_long).1, g.many);
-              ends_long = omega (arith, g.passes.few, same, length-replicate {A = ℕ} 64 0);
+              lost_long = omega (arith, begin_room lost done.left_long, g.many);
+              ends_long = omega (arith, g.passes.few, same);
               lost_is = λ j l. ap (λ (L : State). L j) over;
               ends_is = λ j l. last.each j (omega (arith, g.passes.few));
             }
 
         missing : workable J (awake_of table) + short ≡ total_volume J
-        missing = rw (sum, g.many) (kept_volume g.passes set_long kept)
+        missing = rw (sum ∙ sum_in_front lost (length ranks) (begin_room lost done.left_long), g.many) (kept_volume g.passes set_long kept)
 
         in_all : length (woken J (least_skeleton J)) ≡ short
         in_all =

@@ -43,24 +43,6 @@ module _ {J : Jobs} {releases deadlines ranks lost ends table : List ℕ} {short
   pub room : length ranks ≤ 64
   room = omega (arith, b.many, b.way.passes.few)
 
-  pub place : (values out : List ℕ) → ByPlace values ranks out → length ranks ≤ length out
-  place values out e = omega (arith, room, e.long)
-
-  known : (values : List ℕ) → count J ≤ length values → (k : ℕ) → k < length ranks → job_at ranks k < length values
-  known values m k l = omega (arith, b.ranked.sorted.known k (omega (arith, b.many)))
-
-  pub releases_known : (k : ℕ) → k < length ranks → job_at ranks k < length releases
-  releases_known = known releases (omega (arith, ap length b.releases_are))
-
-  pub deadlines_known : (k : ℕ) → k < length ranks → job_at ranks k < length deadlines
-  deadlines_known = known deadlines (omega (arith, ap length b.deadlines_are, b.way.passes.same_deadlines))
-
-  pub lost_known : (k : ℕ) → k < length ranks → job_at ranks k < length lost
-  lost_known = known lost b.kept.lost_long
-
-  pub ends_known : (k : ℕ) → k < length ranks → job_at ranks k < length ends
-  ends_known = known ends b.kept.ends_long
-
 -- the five arrays, with the numbers of the ranks in front
 module _ {releases deadlines ranks lost ends : List ℕ} {n : ℕ}
     (n_is : n ≡ length ranks) {rank_releases rank_deadlines rank_lost rank_ends reach : List ℕ}

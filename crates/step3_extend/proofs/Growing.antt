@@ -21,8 +21,8 @@ use Rattle.laws_extension.specs.Chain.Keeping.{run_long, rank_in_time, rank_hold
 use Rattle.laws_extension.proofs.Chain.Missing.{kept_set}
 use Rattle.laws_extension.proofs.Chain.Theorems.{rank_tests, rank_updates}
 use Rattle.laws_extension.specs.Waking.Cursor.{cursor_after}
-use Rattle.step3_slot.specs.Notes.{Noteable}
-use Rattle.step3_slot.specs.Books.{Tryable, attempt, Attempted}
+use Rattle.step3_slot.specs.declared.Books.{Books}
+use Rattle.step3_slot.specs.Books.{Tryable, attempt, Attempted, SameLists}
 use Rattle.step3_extend.specs.Turns.{Alone, Extending, Growing, EndedBefore, Extended}
 use Rattle.step3_extend.proofs.Waking.{way_from, way_inside, way_pass, way_turn, way_end}
 
@@ -36,6 +36,10 @@ module _ {J : Jobs} {releases deadlines ranks lost reach ends table : List ℕ} 
 
   pub growing_small : 0 < short → cursor < 4096
   growing_small l = omega (arith, growing_inside l, table_long, g.way.passes.high)
+
+  pub growing_long : {lost' reach' ends' table' : List ℕ} {short' added' cursor' : ℕ}
+      → Growing J releases deadlines ranks lost' reach' ends' table' short' added' cursor' → length table' ≡ length table
+  growing_long {table'} k = run_long J (awake_of table') k.kept.table_is ∙ sym table_long
 
   -- another state of the run, with its books
   renewed : {lost' reach' ends' table' : List ℕ} {short' added' cursor' : ℕ} → Extending J (awake_of table') short' added' cursor'
@@ -150,89 +154,54 @@ module _ {J : Jobs} {releases deadlines ranks lost reach ends table : List ℕ} 
 
 -- Between two turns of either loop: what is shown holds of every list for which the loop could begin, and one such list is at hand.
 pub record Grown (releases deadlines ranks lost₀ reach₀ ends₀ table₀ : List ℕ) (short₀ added₀ cursor₀ : ℕ)
-    (lost reach ends table takers taken : List ℕ) (short added cursor first : ℕ) : Type 0 where
+    (lost reach ends table : List ℕ) (short added cursor first : ℕ) : Type 0 where
   pub J : Jobs
   pub now : Growing J releases deadlines ranks lost reach ends table short added cursor
   pub every : (K : Jobs) → Growing K releases deadlines ranks lost₀ reach₀ ends₀ table₀ short₀ added₀ cursor₀
       → Growing K releases deadlines ranks lost reach ends table short added cursor
   pub first_in : first ≤ length deadlines
-  pub same_lost : length lost ≡ length lost₀
-  pub same_reach : length reach ≡ length reach₀
-  pub same_ends : length ends ≡ length ends₀
   pub same_table : length table ≡ length table₀
-  pub takers_long : length takers ≡ 64
-  pub taken_long : length taken ≡ 64
 
 module _ {releases deadlines ranks lost₀ reach₀ ends₀ table₀ : List ℕ} {short₀ added₀ cursor₀ : ℕ} where
-  pub grown_start : {takers taken : List ℕ} {cursor first : ℕ}
-      → ((J : Jobs) × Growing J releases deadlines ranks lost₀ reach₀ ends₀ table₀ short₀ added₀ cursor₀)
-      → Alone (awake_of table₀) cursor → first ≤ length deadlines → length takers ≡ 64 → length taken ≡ 64
-      → Grown releases deadlines ranks lost₀ reach₀ ends₀ table₀ short₀ added₀ cursor₀ lost₀ reach₀ ends₀ table₀ takers taken short₀ added₀ cursor first
-  grown_start (J, g) a f r s =
-      record {
-        J = J;
-        now = growing_from g a;
-        every = λ K k. growing_from k a;
-        first_in = f;
-        same_lost = refl;
-        same_reach = refl;
-        same_ends = refl;
-        same_table = refl;
-        takers_long = r;
-        taken_long = s;
-      }
+  pub grown_start : {short cursor first : ℕ} → short ≡ short₀ → ((J : Jobs) × Growing J releases deadlines ranks lost₀ reach₀ ends₀ table₀ short₀ added₀ cursor₀)
+      → Alone (awake_of table₀) cursor → first ≤ length deadlines
+      → Grown releases deadlines ranks lost₀ reach₀ ends₀ table₀ short₀ added₀ cursor₀ lost₀ reach₀ ends₀ table₀ short added₀ cursor first
+  grown_start e (J, g) a f = rw e (record { J = J; now = growing_from g a; every = λ K k. growing_from k a; first_in = f; same_table = refl })
 
-  module _ {lost reach ends table takers taken : List ℕ} {short added cursor first : ℕ}
-      (g : Grown releases deadlines ranks lost₀ reach₀ ends₀ table₀ short₀ added₀ cursor₀ lost reach ends table takers taken short added cursor first) where
-    pub grown_notes : Noteable takers taken
-    grown_notes = record { takers_long = omega (arith, g.takers_long); taken_long = omega (arith, g.taken_long) }
-
+  module _ {lost reach ends table : List ℕ} {short added cursor first : ℕ}
+      (g : Grown releases deadlines ranks lost₀ reach₀ ends₀ table₀ short₀ added₀ cursor₀ lost reach ends table short added cursor first) where
     -- an inner loop begins where the outer one stands
-    pub grown_again : Grown releases deadlines ranks lost reach ends table short added cursor lost reach ends table takers taken short added cursor first
-    grown_again =
-        record {
-          J = g.J;
-          now = g.now;
-          every = λ K k. k;
-          first_in = g.first_in;
-          same_lost = refl;
-          same_reach = refl;
-          same_ends = refl;
-          same_table = refl;
-          takers_long = g.takers_long;
-          taken_long = g.taken_long;
-        }
+    pub grown_again : Grown releases deadlines ranks lost reach ends table short added cursor lost reach ends table short added cursor first
+    grown_again = record { J = g.J; now = g.now; every = λ K k. k; first_in = g.first_in; same_table = refl }
 
     -- what a step does for any list
-    pub grown_step : {lost' reach' ends' table' takers' taken' : List ℕ} {short' added' cursor' first' : ℕ}
+    pub grown_step : {lost' reach' ends' table' : List ℕ} {short' added' cursor' first' : ℕ}
         → ((K : Jobs) → Growing K releases deadlines ranks lost reach ends table short added cursor
         → Growing K releases deadlines ranks lost' reach' ends' table' short' added' cursor')
-        → first' ≤ length deadlines → length lost' ≡ length lost → length reach' ≡ length reach → length ends' ≡ length ends
-        → length table' ≡ length table
-        → length takers' ≡ length takers → length taken' ≡ length taken
-        → Grown releases deadlines ranks lost₀ reach₀ ends₀ table₀ short₀ added₀ cursor₀ lost' reach' ends' table' takers' taken' short' added' cursor' first'
-    grown_step step f a b c d r s =
+        → first' ≤ length deadlines
+        → Grown releases deadlines ranks lost₀ reach₀ ends₀ table₀ short₀ added₀ cursor₀ lost' reach' ends' table' short' added' cursor' first'
+    grown_step step f =
         record {
           J = g.J;
           now = step g.J g.now;
           every = λ K k. step K (g.every K k);
           first_in = f;
-          same_lost = a ∙ g.same_lost;
-          same_reach = b ∙ g.same_reach;
-          same_ends = c ∙ g.same_ends;
-          same_table = d ∙ g.same_table;
-          takers_long = r ∙ g.takers_long;
-          taken_long = s ∙ g.taken_long;
+          same_table = growing_long g.now (step g.J g.now) ∙ g.same_table;
         }
 
     -- the inner loop goes on from there
-    pub grown_through : {lost' reach' ends' table' takers' taken' : List ℕ} {short' added' cursor' first' : ℕ}
-        → Grown releases deadlines ranks lost reach ends table short added cursor lost' reach' ends' table' takers' taken' short' added' cursor' first'
-        → Grown releases deadlines ranks lost₀ reach₀ ends₀ table₀ short₀ added₀ cursor₀ lost' reach' ends' table' takers' taken' short' added' cursor' first'
-    grown_through i =
-        grown_step i.every i.first_in i.same_lost i.same_reach i.same_ends i.same_table
-        (i.takers_long ∙ sym g.takers_long) (i.taken_long ∙ sym g.taken_long)
+    pub grown_through : {lost' reach' ends' table' : List ℕ} {short' added' cursor' first' : ℕ}
+        → Grown releases deadlines ranks lost reach ends table short added cursor lost' reach' ends' table' short' added' cursor' first'
+        → Grown releases deadlines ranks lost₀ reach₀ ends₀ table₀ short₀ added₀ cursor₀ lost' reach' ends' table' short' added' cursor' first'
+    grown_through i = grown_step i.every i.first_in
 
     pub grown_end : short ≤ 0 → (K : Jobs) → Growing K releases deadlines ranks lost₀ reach₀ ends₀ table₀ short₀ added₀ cursor₀
         → Extended K table added
     grown_end l K k = let n = g.every K k in way_end table n.way l n.kept.table_is
+
+-- the same lists all along
+pub lists_along : {a b c : Books} → SameLists a b → SameLists b c → SameLists a c
+lists_along p q = record { lost = q.lost ∙ p.lost; reach = q.reach ∙ p.reach; ends = q.ends ∙ p.ends; table = q.table ∙ p.table }
+
+pub extended_along : {J : Jobs} {table table' : List ℕ} {added : ℕ} → Extended J table added → table' ≡ table → Extended J table' added
+extended_along e q = rw q e

@@ -1,23 +1,20 @@
 -- Reading a table's set: which slots are awake, which touch the set, and where the search goes on.
-use Prim.Native.Nat.{ℕ, zero, suc, ◌+◌, ◌-◌, ◌≤◌, ◌<◌}
+use Rattle.std.proofs.Math.Decide.{ℕ_discrete}
+use Prim.Native.Nat.{ℕ, zero, suc, ◌+◌, ◌-◌, ◌<◌}
 use mathlib.Core.Path.{◌≡◌, refl, ap, sym, ◌∙◌}
-use mathlib.Core.Bool.{Bool, true, false, not, ◌&&◌}
+use mathlib.Core.Bool.{Bool, true, false, not}
 use mathlib.Core.List.{List}
 use mathlib.Core.Logic.{◌≢◌}
 use native.Mathlib.Omega.{arith}
 use native.Mathlib.Numerals.{add-one}
-use native.Mathlib.Decide.{ℕ_discrete}
 use borrow.Author.Tests.{eq-eqb, ne_eqb}
-use lib.ListN.{length, get_or, set, get_or-eq_default}
+use lib.ListN.{length, get_or, set}
 use lib.Seq.{get_or-set_same, get_or-set_other}
 use Rattle.sched.proofs.Bounded.Laws.{by_bool}
 use Rattle.sched.specs.Slots.{awake, awake_of, touches}
 use Rattle.sched.proofs.Slots.Laws.{awake_of_lem, awake_of_length}
 use Rattle.step3_extend.specs.Turns.{Alone}
 use Rattle.laws_extension.specs.Waking.Cursor.{cursor_after}
-
-pub asleep_past : (table : List ℕ) (t : ℕ) → length table ≤ t → false ≡ awake (awake_of table) t
-asleep_past table t l = sym (get_or-eq_default (awake_of table) false {n = t} (rw awake_of_length l))
 
 -- a byte says whether its slot is awake
 module _ (table : List ℕ) (t : ℕ) (l : t < length table) where
@@ -126,14 +123,6 @@ module _ (W : List Bool) where
     pub woken_back : (x : ℕ) → x < length W → x ≢ 0 → b ≡ awake W (x - 1) → b ≡ false → x ≢ 1 → c ≡ awake W (x - 2) → c ≡ false
         → x - 1 ≡ cursor_after (set W x false) x
     woken_back x l n e o m f p = cursor_back (set W x false) b c x n (before x b n e) o (near x l n m f) p
-
--- Two tests in a row
-
-pub test_awake : (a n b : Bool) → b ≡ a → b ≡ true → false ≡ not a && n
-test_awake a n b e o = rw (sym e ∙ o)
-
-pub test_near : (a n b c : Bool) → b ≡ a → b ≡ false → c ≡ n → c ≡ not a && n
-test_near a n b c e o f = rw (sym e ∙ o) f
 
 -- The first slot that can touch the set
 

@@ -2,46 +2,44 @@
 // is asked of some list with the parts at hand, and what is promised holds for every such list.
 #![tactic(auto)]
 
-ghost use Rattle.std.specs.Prelude.{◌≡◌, ◌≤◌, length, replicate};
+ghost use Rattle.std.specs.Prelude.{◌≡◌, ◌≤◌, length};
 ghost use Rattle.sched.specs.Bounded.{sum_below};
 ghost use Rattle.sched.specs.Jobs.{Jobs};
 ghost use Rattle.laws_edf.specs.Search.{state_of};
 ghost use Rattle.laws_extension.specs.Chain.Start.{reach_of};
-ghost use Rattle.laws_edf.specs.Orders.{Orders};
 ghost use Rattle.step3_extend.specs.Turns.{Extended};
 ghost use Rattle.step3_extend.specs.Beginning.{Extendable, EndsOf, Begun, ReachOf};
 
+use orders::OrderedJobs;
+use step3_slot::Books;
+
 mod grow; // grow.rt: slots woken while volume is short
 
-// The units that are lost of the first n jobs.
-fn lost_in_all(lost: &[u16], n: usize) -> u32
-    requires { (n ≤ 64) × (n ≤ length lost.now) }
-    ensures { result ≡ sum_below n (state_of lost.now) }
+// The units that are lost of all jobs.
+fn lost_in_all(lost: &[u16]) -> u32
+    requires { length lost.now ≤ 64 }
+    ensures { result ≡ sum_below (length lost.now) (state_of lost.now) }
 {
-    let mut sum: u32 = 0;
-    let mut j = 0;
-    while j < n {
-        sum += lost[j] as u32;
-        j += 1;
+    let mut all = 0;
+    for &units in lost {
+        all += u32::from(units);
     }
-    sum
+    all
 }
 
 // One more than the last slot of each job.
-fn ends_of(table: &[u8], ends: &mut [u16])
-    requires { (length table.now ≤ 4096) × (ends.old ≡ replicate 64 0) }
-    ensures { EndsOf table.now ends.new }
+fn ends_of(table: &[u8]) -> [u16; 64]
+    requires { length table.now ≤ 4096 }
+    ensures long { length result ≡ 64 }
+    ensures each { EndsOf table.now result }
 {
-    let mut t = 0;
-    while t < table.len() {
-        let byte = table[t];
+    let mut ends = [0u16; 64];
+    for (t, &byte) in table.iter().enumerate() {
         if byte < 64 {
             ends[byte as usize] = (t + 1) as u16;
-            t += 1;
-        } else {
-            t += 1;
         }
     }
+    ends
 }
 
 // How far a rank reaches: to its deadline while it has lost units, else to its last slot.
@@ -51,66 +49,49 @@ fn reach_of(deadline: u16, lost: u16, end: u16) -> u16
     if lost == 0 { end } else { deadline }
 }
 
-fn reaches(deadlines: &[u16], lost: &[u16], ends: &[u16]) -> [u16; 64]
-    requires { (length deadlines.now ≡ 64) × (length lost.now ≡ 64) × (length ends.now ≡ 64) }
+fn reaches(deadlines: &[u16; 64], lost: &[u16; 64], ends: &[u16; 64]) -> [u16; 64]
     ensures { ReachOf deadlines.now lost.now ends.now result 64 }
 {
     let mut reach = [0u16; 64];
-    let mut k = 0;
-    while k < 64 {
+    for k in 0..64 {
         reach[k] = reach_of(deadlines[k], lost[k], ends[k]);
-        k += 1;
     }
     reach
 }
 
 // The books by job become books by rank, and slots are woken by them.
-fn grow_by_rank(
-    releases: &[u16],
-    deadlines: &[u16],
-    ranks: &[u8],
-    lost: &[u16],
-    ends: &[u16],
-    table: &mut [u8],
-    short: u32,
-) -> u32
-    requires { (J : Jobs) × Begun J releases.now deadlines.now ranks.now lost.now ends.now table.old short }
-    ensures { (J : Jobs) → Begun J releases.now deadlines.now ranks.now lost.now ends.now table.old short → Extended J table.new result }
+fn grow_by_rank(jobs: &OrderedJobs<'_>, lost: &[u16], ends: &[u16], table: &mut [u8], short: u32)
+    requires { (J : Jobs) × Begun J jobs.now.releases.now jobs.now.deadlines.now jobs.now.ranks.now lost.now ends.now table.old short }
+    ensures { (J : Jobs) → Begun J jobs.now.releases.now jobs.now.deadlines.now jobs.now.ranks.now lost.now ends.now table.old short
+        → Extended J table.new short }
 {
+    let ranks = jobs.ranks;
     let n = ranks.len();
-    let rank_releases = orders::ranked(releases, ranks);
-    let rank_deadlines = orders::ranked(deadlines, ranks);
-    let mut rank_lost = orders::ranked(lost, ranks);
-    let mut rank_ends = orders::ranked(ends, ranks);
-    let mut reach = reaches(&rank_deadlines, &rank_lost, &rank_ends);
-    grow::grow(
-        &rank_releases[..n],
-        &rank_deadlines[..n],
-        ranks,
-        &mut rank_lost,
-        &mut reach,
-        &mut rank_ends,
+    let releases = orders::ranked(jobs.releases, ranks);
+    let deadlines = orders::ranked(jobs.deadlines, ranks);
+    let mut lost = orders::ranked(lost, ranks);
+    let mut ends = orders::ranked(ends, ranks);
+    let mut reach = reaches(&deadlines, &lost, &ends);
+    let mut books = Books {
+        lost: &mut lost,
+        reach: &mut reach,
+        ends: &mut ends,
         table,
-        short,
-    )
+    };
+    grow::grow(&releases[..n], &deadlines[..n], ranks, &mut books, short);
 }
 
 // The table comes with the least skeleton and goes with the extended one; the answer counts the slots that were woken.
-pub fn extend(
-    releases: &[u16],
-    deadlines: &[u16],
-    volumes: &[u16],
-    ranks: &[u8],
-    arrivals: &[u8],
-    table: &mut [u8],
-) -> u32
-    requires { ((J : Jobs) × Extendable J releases.now deadlines.now volumes.now ranks.now table.old) × Orders releases.now deadlines.now ranks.now arrivals.now }
-    ensures { (J : Jobs) → Extendable J releases.now deadlines.now volumes.now ranks.now table.old → Extended J table.new result }
+pub fn extend(jobs: &OrderedJobs<'_>, volumes: &[u16], table: &mut [u8]) -> u32
+    requires { (J : Jobs) × Extendable J jobs.now.releases.now jobs.now.deadlines.now volumes.now jobs.now.ranks.now table.old }
+    ensures { (J : Jobs) → Extendable J jobs.now.releases.now jobs.now.deadlines.now volumes.now jobs.now.ranks.now table.old
+        → Extended J table.new result }
 {
     let mut lost = queue::units(volumes);
-    let mut ends = [0u16; 64];
-    queue::run(0, releases, deadlines, ranks, arrivals, &mut lost, table);
-    ends_of(table, &mut ends);
-    let short = lost_in_all(&lost, ranks.len());
-    grow_by_rank(releases, deadlines, ranks, &lost, &ends, table, short)
+    queue::run(jobs, 0, &mut lost, table);
+    let ends = ends_of(table);
+    // each slot that is woken gains one of the lost units
+    let added = lost_in_all(&lost[..jobs.ranks.len()]);
+    grow_by_rank(jobs, &lost, &ends, table, added);
+    added
 }

@@ -7,14 +7,16 @@ use native.Mathlib.Numerals.{add-one}
 use native.Mathlib.Decide.{ℕ_discrete}
 use native.Mathlib.Omega.{arith}
 use mathlib.Core.Logic.{◌≢◌}
-use lib.ListN.{length, get_or, set, length-set}
+use lib.ListN.{length, get_or, set, take, length-set}
 use lib.Seq.{get_or-set_same, get_or-set_other}
 use Rattle.laws_edf.specs.Orders.{job_at}
 use Rattle.laws_extension.specs.Chain.{end_below, RankBooks, rank_books, Tried, tried, reaches, gained_at}
 use Rattle.laws_extension.specs.Chain.Ends.{ends_below}
-use Rattle.laws_extension.proofs.Chain.Turns.{reaches_not_yet, reaches_no_more, reaches_if, tried_closed, tried_lost, tried_on}
-use Rattle.step3_slot.specs.Books.{Stops, Gainable, Booked, Tryable, Attempted, attempt}
-use Rattle.step3_slot.specs.Notes.{Noteable, slot_held, Undoable, Undone}
+use Rattle.laws_extension.proofs.Chain.Turns.{reaching, tried_closed, tried_lost, tried_on}
+use Rattle.step3_slot.specs.Books.{Stops, Booked, Tryable, Attempted, attempt}
+use Rattle.std.proofs.lemmas.List.{map-set}
+use Rattle.step3_slot.specs.declared.Note.{Note}
+use Rattle.step3_slot.specs.Notes.{takers_of, taken_of, Noteable, slot_held, Undoable, Undone}
 use Rattle.step3_slot.proofs.Noting.{Noted, noted_start, noted_next, noted_undoable, noted_reach, noted_table}
 
 tried_end : (releases ranks table lost reach ends : List ℕ) (k t : ℕ)
@@ -34,7 +36,7 @@ held_apart can takers k zero lower i l m e = omega (arith, can.jobs i m)
 held_apart can takers k (suc n) lower i l m e = can.apart (get_or takers n 0) i (omega (arith, lower n (omega arith))) m e
 
 -- the ranks from k on are still to be asked, and the chain has come to slot at; nothing is gained yet
-pub record Asking (x first : ℕ) (releases ranks lost₀ reach₀ ends₀ table₀ takers₀ taken₀ lost reach ends table takers taken : List ℕ)
+pub record Asking (x first : ℕ) (releases ranks lost₀ reach₀ ends₀ table₀ lost reach ends table takers taken : List ℕ)
     (noted at k : ℕ) : Type 0 where
   pub can : Tryable x first releases ranks lost₀ reach₀ ends₀ table₀
   pub within : k ≤ length releases
@@ -44,18 +46,16 @@ pub record Asking (x first : ℕ) (releases ranks lost₀ reach₀ ends₀ table
   pub same_ends : ends ≡ ends₀
   pub same_reach : length reach ≡ length reach₀
   pub same_table : length table ≡ length table₀
-  pub same_takers : length takers ≡ length takers₀
-  pub same_taken : length taken ≡ length taken₀
   pub reach_in : (i : ℕ) → i < length releases → get_or reach i 0 ≤ length table
   pub lower : (i : ℕ) → i < noted → get_or takers i 0 < k
   pub last : (i : ℕ) → k ≤ i → i < length releases → get_or lost i 0 ≡ 0 → 0 < get_or reach i 0 → get_or table (get_or reach i 0 - 1) 0 ≡ get_or ranks i 0
   pub notes : Noted noted at takers taken ranks reach table reach₀ table₀
   pub rest : attempt x first releases ranks lost₀ reach₀ ends₀ table₀ ≡ tried releases ranks (length releases - k) k at table lost reach ends
 
-module _ {x first : ℕ} {releases ranks lost₀ reach₀ ends₀ table₀ takers₀ taken₀ : List ℕ} where
-  pub asking_start : Tryable x first releases ranks lost₀ reach₀ ends₀ table₀ → Noteable takers₀ taken₀ →
-      Asking x first releases ranks lost₀ reach₀ ends₀ table₀ takers₀ taken₀ lost₀ reach₀ ends₀ table₀ takers₀ taken₀ 0 x first
-  asking_start can room =
+module _ {x first : ℕ} {releases ranks lost₀ reach₀ ends₀ table₀ : List ℕ} where
+  pub asking_start : {takers taken : List ℕ} → Tryable x first releases ranks lost₀ reach₀ ends₀ table₀ → Noteable takers taken →
+      Asking x first releases ranks lost₀ reach₀ ends₀ table₀ lost₀ reach₀ ends₀ table₀ takers taken 0 x first
+  asking_start {takers} {taken} can room =
       record {
         can = can;
         within = can.within;
@@ -65,30 +65,22 @@ module _ {x first : ℕ} {releases ranks lost₀ reach₀ ends₀ table₀ taker
         same_ends = refl;
         same_reach = refl;
         same_table = refl;
-        same_takers = refl;
-        same_taken = refl;
         reach_in = can.reach_in;
         lower = λ i l. absurd (omega arith);
         last = λ i l. can.last i;
-        notes = noted_start x takers₀ taken₀ ranks reach₀ table₀ room can.asleep;
+        notes = noted_start x takers taken ranks reach₀ table₀ room can.asleep;
         rest = refl;
       }
 
   module _ {lost reach ends table takers taken : List ℕ} {noted at k : ℕ}
-      (a : Asking x first releases ranks lost₀ reach₀ ends₀ table₀ takers₀ taken₀ lost reach ends table takers taken noted at k) where
-    pub asking_lost_long : length lost ≡ length lost₀
-    asking_lost_long = ap (λ (l : List ℕ). length l) a.same_lost
-
-    pub asking_ends_long : length ends ≡ length ends₀
-    asking_ends_long = ap (λ (l : List ℕ). length l) a.same_ends
-
-    pub asking_undoable : Undoable noted at takers taken ranks reach table
+      (a : Asking x first releases ranks lost₀ reach₀ ends₀ table₀ lost reach ends table takers taken noted at k) where
+    pub asking_undoable : Undoable noted at (take noted takers) (take noted taken) ranks reach table
     asking_undoable =
         noted_undoable a.notes (omega (arith, a.few, a.within, a.can.few)) a.inside (omega (arith, a.same_table, a.can.small))
         (λ i l. omega (arith, a.lower i l, a.within, a.can.reach_long, a.same_reach))
         (λ i l. omega (arith, a.lower i l, a.within, a.can.ranks_long))
 
-    pub asking_end : length releases ≤ k → (reach' table' : List ℕ) → Undone noted at takers taken ranks reach table reach' table' →
+    pub asking_end : length releases ≤ k → (reach' table' : List ℕ) → Undone noted at (take noted takers) (take noted taken) ranks reach table reach' table' →
         Attempted x first releases ranks lost₀ reach₀ ends₀ table₀ false lost reach' ends table'
     asking_end l reach' table' u =
         let z : length releases - k ≡ 0 = omega arith in
@@ -112,21 +104,9 @@ module _ {x first : ℕ} {releases ranks lost₀ reach₀ ends₀ table₀ taker
       pub asking_in_lost : k < length lost
       asking_in_lost = rw a.same_lost (omega (arith, a.can.lost_long))
 
-      pub asking_gainable : 0 < get_or lost k 0 → Gainable k at ranks lost reach ends table
-      asking_gainable unit =
-          record {
-            in_ranks = omega (arith, a.can.ranks_long);
-            in_lost = asking_in_lost;
-            in_reach = asking_in_reach;
-            in_ends = rw a.same_ends (omega (arith, a.can.ends_long));
-            in_table = a.inside;
-            small = omega (arith, a.same_table, a.can.small);
-            unit = unit;
-          }
-
-      skipped : reaches releases reach at k ≡ false →
-          Asking x first releases ranks lost₀ reach₀ ends₀ table₀ takers₀ taken₀ lost reach ends table takers taken noted at (k + 1)
-      skipped e =
+      pub asking_skipped : reaches releases reach at k ≡ false →
+          Asking x first releases ranks lost₀ reach₀ ends₀ table₀ lost reach ends table takers taken noted at (k + 1)
+      asking_skipped e =
           record {
             can = a.can;
             within = omega arith;
@@ -136,8 +116,6 @@ module _ {x first : ℕ} {releases ranks lost₀ reach₀ ends₀ table₀ taker
             same_ends = a.same_ends;
             same_reach = a.same_reach;
             same_table = a.same_table;
-            same_takers = a.same_takers;
-            same_taken = a.same_taken;
             reach_in = a.reach_in;
             lower = λ i m. omega (arith, a.lower i m);
             last = λ i m. a.last i (omega arith);
@@ -146,93 +124,91 @@ module _ {x first : ℕ} {releases ranks lost₀ reach₀ ends₀ table₀ taker
                 (length releases - suc k) k at e);
           }
 
-      pub asking_early : at < get_or releases k 0
-          → Asking x first releases ranks lost₀ reach₀ ends₀ table₀ takers₀ taken₀ lost reach ends table takers taken noted at (k + 1)
-      asking_early e = skipped (reaches_not_yet releases reach at k e)
+      module _ (open_here : reaches releases reach at k ≡ true) where
+        far : at < get_or reach k 0
+        far = (reaching releases reach at k open_here).1
 
-      module _ (begun : get_or releases k 0 ≤ at) where
-        pub asking_behind : get_or reach k 0 ≤ at → Asking x first releases ranks lost₀ reach₀ ends₀ table₀ takers₀ taken₀ lost reach ends table takers taken noted at (k + 1)
-        asking_behind e = skipped (reaches_no_more releases reach at k e)
+        pub asking_gained : 0 < get_or lost k 0 → (lost' reach' ends' table' : List ℕ)
+            → Booked (gained_at ranks k at table lost reach ends) table' lost' reach' ends' →
+            Attempted x first releases ranks lost₀ reach₀ ends₀ table₀ true lost' reach' ends' table'
+        asking_gained unit lost' reach' ends' table' b =
+            let e = (rw (turns_left (length releases) k l) at a.rest)
+            ∙ tried_lost releases ranks table lost reach ends (length releases - suc k) k at open_here unit in
+            record {
+              helped_is = sym (ap (λ (o : Tried). o.helped) e);
+              booked = λ q. booked_by (ap (λ (o : Tried). o.books) e);
+              undone = λ q. absurd (true≢false q);
+            }
+          where
+            booked_by : {books : RankBooks} → books ≡ gained_at ranks k at table lost reach ends → Booked books table' lost' reach' ends'
+            booked_by e = rw e b
 
-        module _ (far : at < get_or reach k 0) where
-          open_here : reaches releases reach at k ≡ true
-          open_here = reaches_if releases reach at k begun far
+        module _ (none : get_or lost k 0 ≤ 0) where
+          asking_room : noted < 64
+          asking_room = omega (arith, a.few, a.can.few)
 
-          pub asking_gained : 0 < get_or lost k 0 → (lost' reach' ends' table' : List ℕ)
-              → Booked (gained_at ranks k at table lost reach ends) table' lost' reach' ends' →
-              Attempted x first releases ranks lost₀ reach₀ ends₀ table₀ true lost' reach' ends' table'
-          asking_gained unit lost' reach' ends' table' b =
-              let e = (rw (turns_left (length releases) k l) at a.rest)
-              ∙ tried_lost releases ranks table lost reach ends (length releases - suc k) k at open_here unit in
+          onward : at < get_or reach k 0 - 1
+          onward = omega (arith, far, elsewhere k (omega arith) l (omega arith) (omega (arith, far)))
+
+          pub asking_stops : Stops (job_at ranks k) (get_or reach k 0 - 1) (set table at (job_at ranks k))
+          asking_stops =
               record {
-                helped_is = sym (ap (λ (o : Tried). o.helped) e);
-                booked = λ q. booked_by (ap (λ (o : Tried). o.books) e);
-                undone = λ q. absurd (true≢false q);
+                within = rw (length-set table at (job_at ranks k)) (omega (arith, a.reach_in k l));
+                slot = at;
+                lower = onward;
+                holds = get_or-set_same table at (job_at ranks k) 0 a.inside;
               }
-            where
-              booked_by : {books : RankBooks} → books ≡ gained_at ranks k at table lost reach ends → Booked books table' lost' reach' ends'
-              booked_by e = rw e b
 
-          module _ (none : get_or lost k 0 ≤ 0) where
-            asking_room : noted < 64
-            asking_room = omega (arith, a.few, a.can.few)
+          kept_on : (i : ℕ) → k ≤ i → i < length releases → get_or lost i 0 ≡ 0 → 0 < get_or reach i 0 →
+              get_or (set table at (job_at ranks k)) (get_or reach i 0 - 1) 0 ≡ get_or ranks i 0
+          kept_on i m b z p =
+              get_or-set_other table at (get_or reach i 0 - 1) (job_at ranks k) 0 (elsewhere i m b z p) ∙ a.last i m b z p
 
-            onward : at < get_or reach k 0 - 1
-            onward = omega (arith, elsewhere k (omega arith) l (omega arith) (omega arith))
+          module _ (v : ℕ) (is : v ≡ end_below (job_at ranks k) (get_or reach k 0 - 1) (set table at (job_at ranks k))) where
+            lower : v ≤ get_or reach k 0 - 1
+            lower = rw is (ends_below (job_at ranks k) (get_or reach k 0 - 1) (set table at (job_at ranks k))).within
 
-            pub asking_stops : Stops (job_at ranks k) (get_or reach k 0 - 1) (set table at (job_at ranks k))
-            asking_stops =
+            pub asking_fits : v ≤ 4096
+            asking_fits = omega (arith, lower, a.reach_in k l, a.same_table, a.can.small)
+
+            reach_next : (i : ℕ) → i < length releases → Dec (i ≡ k) → get_or (set reach k v) i 0 ≤ length (set table at (job_at ranks k))
+            reach_next i m (yes e) =
+                rw (e, get_or-set_same reach k v 0 asking_in_reach, length-set table at (job_at ranks k)) (omega (arith, lower, a.reach_in k l))
+            reach_next i m (no f) = rw (get_or-set_other reach k i v 0 f, length-set table at (job_at ranks k)) (a.reach_in i m)
+
+            lower_next : (i : ℕ) → i < noted + 1 → Dec (i ≡ noted) → get_or (set takers noted k) i 0 < k + 1
+            lower_next i m (yes e) = rw (e, get_or-set_same takers noted k 0 (omega (arith, asking_room, a.notes.room.takers_long))) (omega arith)
+            lower_next i m (no f) = rw (get_or-set_other takers noted i k 0 f) (omega (arith, a.lower i (omega arith)))
+
+            last_next : (i : ℕ) → k + 1 ≤ i → i < length releases → get_or lost i 0 ≡ 0 → 0 < get_or (set reach k v) i 0 →
+                get_or (set table at (job_at ranks k)) (get_or (set reach k v) i 0 - 1) 0 ≡ get_or ranks i 0
+            last_next i m b z =
+                rw (get_or-set_other reach k i v 0 (omega arith)) (kept_on i (omega arith) b z)
+
+            pub asking_on : Asking x first releases ranks lost₀ reach₀ ends₀ table₀ lost (set reach k v) ends
+                (set table at (job_at ranks k)) (set takers noted k) (set taken noted at) (noted + 1) (get_or reach k 0 - 1) (k + 1)
+            asking_on =
                 record {
-                  within = rw (length-set table at (job_at ranks k)) (omega (arith, a.reach_in k l));
-                  slot = at;
-                  lower = onward;
-                  holds = get_or-set_same table at (job_at ranks k) 0 a.inside;
+                  can = a.can;
+                  within = omega arith;
+                  few = omega (arith, a.few);
+                  inside = rw (length-set table at (job_at ranks k)) (omega (arith, a.reach_in k l));
+                  same_lost = a.same_lost;
+                  same_ends = a.same_ends;
+                  same_reach = length-set reach k v ∙ a.same_reach;
+                  same_table = length-set table at (job_at ranks k) ∙ a.same_table;
+                  reach_in = λ i m. reach_next i m (ℕ_discrete i k);
+                  lower = λ i m. lower_next i m (ℕ_discrete i noted);
+                  last = last_next;
+                  notes = noted_next a.notes k v asking_room a.inside (omega (arith, far)) (kept_on k (omega arith) l (omega arith) (omega (arith, far)));
+                  rest = rw (is, add-one) (rw (turns_left (length releases) k l) at a.rest ∙ tried_on releases ranks table lost reach ends
+                      (length releases - suc k) k at open_here (omega arith));
                 }
 
-            kept_on : (i : ℕ) → k ≤ i → i < length releases → get_or lost i 0 ≡ 0 → 0 < get_or reach i 0 →
-                get_or (set table at (job_at ranks k)) (get_or reach i 0 - 1) 0 ≡ get_or ranks i 0
-            kept_on i m b z p =
-                get_or-set_other table at (get_or reach i 0 - 1) (job_at ranks k) 0 (elsewhere i m b z p) ∙ a.last i m b z p
-
-            module _ (v : ℕ) (is : v ≡ end_below (job_at ranks k) (get_or reach k 0 - 1) (set table at (job_at ranks k))) where
-              lower : v ≤ get_or reach k 0 - 1
-              lower = rw is (ends_below (job_at ranks k) (get_or reach k 0 - 1) (set table at (job_at ranks k))).within
-
-              pub asking_fits : v ≤ 4096
-              asking_fits = omega (arith, lower, a.reach_in k l, a.same_table, a.can.small)
-
-              reach_next : (i : ℕ) → i < length releases → Dec (i ≡ k) → get_or (set reach k v) i 0 ≤ length (set table at (job_at ranks k))
-              reach_next i m (yes e) =
-                  rw (e, get_or-set_same reach k v 0 asking_in_reach, length-set table at (job_at ranks k)) (omega (arith, lower, a.reach_in k l))
-              reach_next i m (no f) = rw (get_or-set_other reach k i v 0 f, length-set table at (job_at ranks k)) (a.reach_in i m)
-
-              lower_next : (i : ℕ) → i < noted + 1 → Dec (i ≡ noted) → get_or (set takers noted k) i 0 < k + 1
-              lower_next i m (yes e) = rw (e, get_or-set_same takers noted k 0 (omega (arith, asking_room, a.notes.room.takers_long))) (omega arith)
-              lower_next i m (no f) = rw (get_or-set_other takers noted i k 0 f) (omega (arith, a.lower i (omega arith)))
-
-              last_next : (i : ℕ) → k + 1 ≤ i → i < length releases → get_or lost i 0 ≡ 0 → 0 < get_or (set reach k v) i 0 →
-                  get_or (set table at (job_at ranks k)) (get_or (set reach k v) i 0 - 1) 0 ≡ get_or ranks i 0
-              last_next i m b z =
-                  rw (get_or-set_other reach k i v 0 (omega arith)) (kept_on i (omega arith) b z)
-
-              pub asking_on : Asking x first releases ranks lost₀ reach₀ ends₀ table₀ takers₀ taken₀ lost (set reach k v) ends
-                  (set table at (job_at ranks k)) (set takers noted k) (set taken noted at) (noted + 1) (get_or reach k 0 - 1) (k + 1)
-              asking_on =
-                  record {
-                    can = a.can;
-                    within = omega arith;
-                    few = omega (arith, a.few);
-                    inside = rw (length-set table at (job_at ranks k)) (omega (arith, a.reach_in k l));
-                    same_lost = a.same_lost;
-                    same_ends = a.same_ends;
-                    same_reach = length-set reach k v ∙ a.same_reach;
-                    same_table = length-set table at (job_at ranks k) ∙ a.same_table;
-                    same_takers = length-set takers noted k ∙ a.same_takers;
-                    same_taken = length-set taken noted at ∙ a.same_taken;
-                    reach_in = λ i m. reach_next i m (ℕ_discrete i k);
-                    lower = λ i m. lower_next i m (ℕ_discrete i noted);
-                    last = last_next;
-                    notes = noted_next a.notes k v asking_room a.inside (omega arith) (kept_on k (omega arith) l (omega arith) (omega arith));
-                    rest = rw (is, add-one) (rw (turns_left (length releases) k l) at a.rest ∙ tried_on releases ranks table lost reach ends
-                        (length releases - suc k) k at open_here (omega arith));
-                  }
+-- a note written, and the table as the code has it
+pub asking_written : {x first : ℕ} {releases ranks lost₀ reach₀ ends₀ table₀ lost reach ends table table' : List ℕ} {noted at k : ℕ} (n : ℕ)
+    (notes : List Note) (note : Note) →
+    Asking x first releases ranks lost₀ reach₀ ends₀ table₀ lost reach ends table (set (takers_of notes) n note.taker) (set (taken_of notes) n note.slot) noted at k →
+    table' ≡ table →
+    Asking x first releases ranks lost₀ reach₀ ends₀ table₀ lost reach ends table' (takers_of (set notes n note)) (taken_of (set notes n note)) noted at k
+asking_written n notes note a e = rw (e, map-set (λ (m : Note). m.taker) notes n note, map-set (λ (m : Note). m.slot) notes n note) a

@@ -1,5 +1,4 @@
 -- Laws over plain variables that the proofs of the functions cite.
-pub mod Gaining
 pub mod Noting
 pub mod Undoing
 pub mod Asking

@@ -1,11 +1,11 @@
 -- The loop that puts notes back: what is left to put back gives what all of it does.
 use Prim.Native.Nat.{ℕ, zero, suc, ◌+◌, ◌-◌, ◌≤◌, ◌<◌}
-use mathlib.Core.Path.{◌≡◌, refl, sym, ◌∙◌}
+use mathlib.Core.Path.{◌≡◌, sym, ◌∙◌}
 use mathlib.Core.List.{List}
 use native.Mathlib.Numerals.{add-one}
 use native.Mathlib.Omega.{arith}
 use lib.ListN.{length, get_or, set, length-set}
-use Rattle.step3_slot.specs.Notes.{slot_held, Recallable, undone_reach, undone_table, Undoable, Undone}
+use Rattle.step3_slot.specs.Notes.{slot_held, undone_reach, undone_table, Undoable, Undone}
 
 reach_turn : (t : ℕ) (takers taken reach : List ℕ) (i : ℕ) → 0 < i →
     undone_reach i t takers taken reach ≡ undone_reach (i - 1) (get_or taken (i - 1) 0) takers taken (set reach (get_or takers (i - 1) 0) (t + 1))
@@ -39,11 +39,6 @@ pub record Undoing (noted last : ℕ) (takers taken ranks reach₀ table₀ reac
   pub table_rest : undone_table i takers taken ranks table ≡ undone_table noted takers taken ranks table₀
 
 module _ {noted last : ℕ} {takers taken ranks reach₀ table₀ : List ℕ} where
-  pub undoing_start : Undoable noted last takers taken ranks reach₀ table₀
-      → Undoing noted last takers taken ranks reach₀ table₀ reach₀ table₀ last noted
-  undoing_start can =
-      record { can = can; within = omega arith; at_in = can.last_in; same_reach = refl; same_table = refl; reach_rest = refl; table_rest = refl }
-
   module _ {reach table : List ℕ} {at i : ℕ} (u : Undoing noted last takers taken ranks reach₀ table₀ reach table at i) where
     pub undoing_end : i ≤ 0 → Undone noted last takers taken ranks reach₀ table₀ reach table
     unfolding undone_reach undone_table
@@ -57,13 +52,6 @@ module _ {noted last : ℕ} {takers taken ranks reach₀ table₀ : List ℕ} wh
 
       pub undoing_slot : get_or taken (i - 1) 0 < length table
       undoing_slot = omega (arith, u.can.slot_in (i - 1) (omega (arith, u.within)), u.same_table)
-
-      pub undoing_recall : Recallable (i - 1) takers ranks
-      undoing_recall =
-          record {
-            takers_long = omega (arith, u.within, u.can.takers_long);
-            rank_in = λ m. u.can.rank_known (i - 1 - 1) (omega (arith, u.within));
-          }
 
       -- h is what the slot held
       pub undoing_turn : (h : ℕ) → h ≡ slot_held (i - 1) takers ranks →

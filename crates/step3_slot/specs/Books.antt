@@ -1,6 +1,7 @@
 -- What is asked of the lists that are lent, and what they hold afterwards.
 use Rattle.std.specs.Prelude.{ℕ, ◌-◌, ◌≤◌, ◌<◌, ◌≡◌, Bool, true, false, List, ◌≢◌, length, get_or}
 use Rattle.laws_extension.specs.Chain.{RankBooks, Tried, tried}
+use Rattle.step3_slot.specs.declared.Books.{Books}
 
 -- some slot below `below` holds the byte
 pub record Stops (byte below : ℕ) (table : List ℕ) : Type 0 where
@@ -52,3 +53,10 @@ pub record Attempted (x first : ℕ) (releases ranks lost reach ends table : Lis
   pub helped_is : helped ≡ (attempt x first releases ranks lost reach ends table).helped
   pub booked : helped ≡ true → Booked (attempt x first releases ranks lost reach ends table).books table' lost' reach' ends'
   pub undone : helped ≡ false → (table' ≡ table) × (lost' ≡ lost) × (reach' ≡ reach) × (ends' ≡ ends)
+
+-- the books have the same lists, whatever these hold now
+pub record SameLists (old new : Books) : Type 0 where
+  pub lost : new.lost.ghost_name ≡ old.lost.ghost_name
+  pub reach : new.reach.ghost_name ≡ old.reach.ghost_name
+  pub ends : new.ends.ghost_name ≡ old.ends.ghost_name
+  pub table : new.table.ghost_name ≡ old.table.ghost_name

@@ -1,5 +1,13 @@
 -- Notes of a chain: a note has a rank, in `takers`, and the slot that it took, in `taken`; it gave up the slot that the next note takes.
-use Rattle.std.specs.Prelude.{ℕ, zero, suc, ◌-◌, ◌≤◌, ◌<◌, ◌≡◌, List, length, get_or, set}
+use Rattle.std.specs.Prelude.{ℕ, zero, suc, ◌-◌, ◌≤◌, ◌<◌, ◌≡◌, List, length, map, get_or, set}
+use Rattle.step3_slot.specs.declared.Note.{Note}
+
+-- the ranks of the notes, and the slots that they took
+abbrev pub takers_of : List Note → List ℕ
+takers_of = map (λ n. n.taker)
+
+abbrev pub taken_of : List Note → List ℕ
+taken_of = map (λ n. n.slot)
 
 -- the lists have room for a note of each rank
 pub record Noteable (takers taken : List ℕ) : Type 0 where

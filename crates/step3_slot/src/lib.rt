@@ -2,136 +2,136 @@
 // unit hands on its last slot in turn, until a lost unit is gained. If none is, what was changed on the way is put back.
 #![tactic(auto)]
 
-ghost use Rattle.std.specs.Prelude.{◌≡◌, ◌+◌, ◌<◌, max};
-ghost use Rattle.laws_extension.specs.Chain.{end_below, gained_at};
-ghost use Rattle.step3_slot.specs.Books.{Stops, Gainable, Booked, Tryable, Attempted};
-ghost use Rattle.step3_slot.specs.Notes.{Noteable, slot_held, Recallable, Undoable, Undone};
+ghost use Rattle.std.specs.Prelude.{◌≡◌, ◌<◌, length};
+ghost use Rattle.laws_extension.specs.Chain.{end_below, reaches, gained_at};
+ghost use Rattle.step3_slot.specs.Books.{Stops, Gainable, Booked, Tryable, Attempted, SameLists};
+ghost use Rattle.step3_slot.specs.Notes.{Noteable, slot_held, Recallable, Undoable, Undone, takers_of, taken_of};
 
 use sched::ASLEEP;
 
-// One more than the last slot below `below` that holds the byte; there is one, so the search needs no test for the table's start.
-fn end_below(table: &[u8], byte: u8, below: usize) -> usize
-    requires { Stops byte below table.now }
-    ensures { result ≡ end_below byte below table.now }
-{
-    let mut s = below;
-    while table[s - 1] != byte {
-        s -= 1;
-    }
-    s
+// The books of a run and its table: by rank the units that a job has lost, how far it reaches, and one more than its last slot.
+// kept: three lists and no slice of structs, as orders::ranked makes them and RankBooks has them; a struct a rank would cost one more pass
+#[derive(Drop)]
+pub struct Books<'a> {
+    pub lost: &'a mut [u16],
+    pub reach: &'a mut [u16],
+    pub ends: &'a mut [u16],
+    pub table: &'a mut [u8],
 }
 
-fn later(end: u16, at: usize) -> u16
-    requires { at < 65535 }
-    ensures { result ≡ max end (at + 1) }
-{
-    if (end as usize) < at + 1 {
-        (at + 1) as u16
-    } else {
-        end
-    }
-}
-
-// Rank k gains the slot for one of its lost units.
-fn gain(
-    k: usize,
-    at: usize,
-    ranks: &[u8],
-    lost: &mut [u16],
-    reach: &mut [u16],
-    ends: &mut [u16],
-    table: &mut [u8],
-)
-    requires { Gainable k at ranks.now lost.old reach.old ends.old table.old }
-    ensures { Booked (gained_at ranks.now k at table.old lost.old reach.old ends.old) table.new lost.new reach.new ends.new }
-{
-    table[at] = ranks[k];
-    let end = later(ends[k], at);
-    ends[k] = end;
-    lost[k] -= 1;
-    if lost[k] == 0 {
-        reach[k] = end;
-    }
+// A note of what a chain changes: a rank, and the slot that it took.
+#[derive(Clone, Copy)]
+pub struct Note {
+    pub taker: u8,
+    pub slot: u16,
 }
 
 // What the slot of note i held: it slept if the note is the first, else the rank noted before had just given it up.
-fn held(i: usize, takers: &[u8], ranks: &[u8]) -> u8
-    requires { Recallable i takers.now ranks.now }
-    ensures { result ≡ slot_held i takers.now ranks.now }
+fn held(i: usize, notes: &[Note], ranks: &[u8]) -> u8
+    requires { Recallable i (takers_of notes.now) ranks.now }
+    ensures { result ≡ slot_held i (takers_of notes.now) ranks.now }
 {
     if i == 0 {
         ASLEEP
     } else {
-        ranks[takers[i - 1] as usize]
+        ranks[notes[i - 1].taker as usize]
     }
 }
 
-// Puts back what the first `noted` notes say, the last one first; the last rank of them gave up slot `last`.
-fn undo(
-    noted: usize,
-    last: usize,
-    takers: &[u8],
-    taken: &[u16],
-    ranks: &[u8],
-    reach: &mut [u16],
-    table: &mut [u8],
-)
-    requires { Undoable noted last takers.now taken.now ranks.now reach.old table.old }
-    ensures { Undone noted last takers.now taken.now ranks.now reach.old table.old reach.new table.new }
-{
-    let mut at = last;
-    let mut i = noted;
-    while 0 < i {
-        i -= 1;
-        reach[takers[i] as usize] = (at + 1) as u16;
-        at = taken[i] as usize;
-        table[at] = held(i, takers, ranks);
+impl Books<'_> {
+    // Rank k may take the slot.
+    fn reaches(&self, releases: &[u16], k: usize, at: usize) -> bool
+        requires in_releases { k < length releases.now }
+        requires in_reach { k < length self.now.reach.now }
+        ensures { result ≡ reaches releases.now self.now.reach.now at k }
+    {
+        releases[k] as usize <= at && at < self.reach[k] as usize
     }
-}
 
-// Wakes slot x if that helps, and says whether it does; no rank before `first` is asked. Releases and books go by rank. The two lists of notes,
-// the ranks that take a slot and the slots that they take, are lent for the call only:
-// what they hold at first is never read, and what they hold afterwards is left open. Lists of its own would have to be zeroed on every call.
-pub fn wake(
-    x: usize,
-    first: usize,
-    releases: &[u16],
-    ranks: &[u8],
-    lost: &mut [u16],
-    reach: &mut [u16],
-    ends: &mut [u16],
-    table: &mut [u8],
-    takers: &mut [u8],
-    taken: &mut [u16],
-) -> bool
-    requires { Tryable x first releases.now ranks.now lost.old reach.old ends.old table.old × Noteable takers.old taken.old }
-    ensures { Attempted x first releases.now ranks.now lost.old reach.old ends.old table.old result lost.new reach.new ends.new table.new }
-{
-    let mut noted = 0;
-    let mut at = x;
-    let mut k = first;
-    while k < releases.len() {
-        if at < releases[k] as usize {
-            k += 1;
-            continue;
+    // One more than the last slot below `below` that holds the byte; there is one, so the search needs no test for the table's start.
+    fn end_below(&self, byte: u8, below: usize) -> usize
+        requires { Stops byte below self.now.table.now }
+        ensures { result ≡ end_below byte below self.now.table.now }
+    {
+        // kept: a for would test for the table's start on every step, and need a value for an end that no search comes to
+        let mut s = below;
+        while self.table[s - 1] != byte {
+            s -= 1;
         }
-        if reach[k] as usize <= at {
-            k += 1;
-            continue;
-        }
-        if 0 < lost[k] {
-            gain(k, at, ranks, lost, reach, ends, table);
-            return true;
-        }
-        takers[noted] = k as u8;
-        taken[noted] = at as u16;
-        noted += 1;
-        let byte = ranks[k];
-        table[at] = byte;
-        at = reach[k] as usize - 1;
-        reach[k] = end_below(table, byte, at) as u16;
-        k += 1;
+        s
     }
-    undo(noted, at, takers, taken, ranks, reach, table);
-    false
+
+    // Rank k gains the slot for one of its lost units.
+    fn gain(&mut self, ranks: &[u8], k: usize, at: usize)
+        requires { Gainable k at ranks.now self.old.lost.now self.old.reach.now self.old.ends.now self.old.table.now }
+        ensures booked { Booked (gained_at ranks.now k at self.old.table.now self.old.lost.now self.old.reach.now self.old.ends.now)
+            self.new.table.now self.new.lost.now self.new.reach.now self.new.ends.now }
+        ensures same_lists { SameLists self.old self.new }
+    {
+        self.table[at] = ranks[k];
+        let end = self.ends[k].max(at as u16 + 1);
+        self.ends[k] = end;
+        self.lost[k] -= 1;
+        if self.lost[k] == 0 {
+            self.reach[k] = end;
+        }
+    }
+
+    // Puts back what the notes say, the last one first; the last rank of them gave up slot `last`.
+    fn undo(&mut self, ranks: &[u8], last: usize, notes: &[Note])
+        requires { Undoable (length notes.now) last (takers_of notes.now) (taken_of notes.now) ranks.now self.old.reach.now self.old.table.now }
+        ensures undone { Undone (length notes.now) last (takers_of notes.now) (taken_of notes.now) ranks.now self.old.reach.now
+            self.old.table.now self.new.reach.now self.new.table.now }
+        ensures kept { (self.new.lost.now ≡ self.old.lost.now) × (self.new.ends.now ≡ self.old.ends.now) }
+        ensures same_lists { SameLists self.old self.new }
+    {
+        let mut at = last;
+        for i in (0..notes.len()).rev() {
+            let note = notes[i];
+            self.reach[note.taker as usize] = (at + 1) as u16;
+            at = note.slot as usize;
+            self.table[at] = held(i, notes, ranks);
+        }
+    }
+
+    // Wakes slot x if that helps, and says whether it does; no rank before `first` is asked. The notes are lent for the call only: what they hold
+    // at first is never read, and what they hold afterwards is left open. Notes of its own would have to be zeroed on every call.
+    pub fn wake(
+        &mut self,
+        releases: &[u16],
+        ranks: &[u8],
+        x: usize,
+        first: usize,
+        notes: &mut [Note],
+    ) -> bool
+        requires tryable { Tryable x first releases.now ranks.now self.old.lost.now self.old.reach.now self.old.ends.now self.old.table.now }
+        requires noteable { Noteable (takers_of notes.old) (taken_of notes.old) }
+        ensures attempted { Attempted x first releases.now ranks.now self.old.lost.now self.old.reach.now self.old.ends.now self.old.table.now
+            result self.new.lost.now self.new.reach.now self.new.ends.now self.new.table.now }
+        ensures same_lists { SameLists self.old self.new }
+    {
+        // kept: notes with their number beside them, and no ArrayVec: that would be zeroed on every call, too
+        let mut noted = 0;
+        let mut at = x;
+        for k in first..releases.len() {
+            if !self.reaches(releases, k, at) {
+                continue;
+            }
+            if 0 < self.lost[k] {
+                self.gain(ranks, k, at);
+                return true;
+            }
+            notes[noted] = Note {
+                taker: k as u8,
+                slot: at as u16,
+            };
+            noted += 1;
+            let byte = ranks[k];
+            self.table[at] = byte;
+            at = self.reach[k] as usize - 1;
+            self.reach[k] = self.end_below(byte, at) as u16;
+        }
+        self.undo(ranks, at, &notes[..noted]);
+        false
+    }
 }

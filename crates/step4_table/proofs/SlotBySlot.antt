@@ -6,9 +6,9 @@ use mathlib.Core.List.{List, [], ◌∷◌, ◌++◌, append-nil}
 use mathlib.Core.Option.{Option, none, some}
 use native.Mathlib.Omega.{arith}
 use native.Mathlib.Numerals.{add-one}
-use borrow.Author.Tests.{eq-eqb, ne_eqb}
+use borrow.Author.Tests.{ne_eqb}
 use lib.ListN.{length, get_or, set, take, drop, length-set, drop_of_length-le}
-use lib.Seq.{set-get_or, get_or-set_other, take-suc-set, take_all, append_snoc, drop-cons}
+use lib.Seq.{get_or-set_other, take-suc-set, take_all, append_snoc, drop-cons}
 use Rattle.sched.specs.Jobs.{Jobs}
 use Rattle.sched.specs.Slots.{asleep, idle, wakeful, awake_of}
 use Rattle.sched.proofs.Slots.Laws.{awake_of_length}
@@ -17,61 +17,56 @@ use Rattle.laws_edf.specs.Run.{Spans, State, spans, servable, after, slot_byte}
 use Rattle.laws_edf.specs.Search.{state_of, state_lowered}
 use Rattle.laws_edf.specs.Orders.{Sorted, job_at}
 use Rattle.orders.specs.Lists.{ListsOf}
+use Rattle.orders.specs.declared.ordered_jobs.OrderedJobs.{OrderedJobs}
+use Rattle.queue.specs.declared.Ready.{Ready}
+use Rattle.step4_table.specs.declared.Running.{Running}
 use Rattle.queue.specs.Mask.{mask}
 use Rattle.queue.specs.Ranks.{spans_of, serves_rank}
-use Rattle.queue.specs.Serving.{lowest, CanServe, Serves, Waits, After}
+use Rattle.queue.specs.Serving.{CanServe, Serves, Waits, After}
 use Rattle.queue.specs.Serving.Laws.{none_after, can_serve, rank_after}
 use Rattle.queue.specs.Arrivals.{ReadyAt}
-use Rattle.queue.specs.Runs.{Known, Lookable, Looked, Units}
-use Rattle.queue.specs.Runs.Waiting.{looked_bits, ready_after, ready_later}
-use Rattle.step4_table.specs.Filling.{Fillable, onward, Fills}
-use Rattle.step4_table.specs.Going.{going_rank, CanGo, Stands, SlotFillable, ran, SlotFilled}
+use Rattle.queue.specs.Runs.{Lookable, Looked, Units}
+use Rattle.queue.specs.Runs.Waiting.{looked_bits, ready_after}
+use Rattle.step4_table.specs.Filling.{onward, Fills}
+use Rattle.step4_table.specs.Going.{going_rank, CanGo, Stands, ran, SlotFilled}
 use Rattle.step4_table.proofs.GoingRank.{set_waits, going_takes, lowest_below, none_goes}
 use Rattle.step4_table.proofs.AsRun.{table_is_run}
 use Rattle.step4_table.proofs.Behind.{idle_behind}
 
--- A sleeping slot runs none, and what is kept in mind stays.
-pub slot_sleeps : (releases deadlines ranks arrivals left table : List ℕ) (t bits next gone u latest : ℕ) (job : Option ℕ) → get_or table t 0 ≡ asleep →
-    ReadyAt releases deadlines ranks arrivals left t bits next gone u → Stands (length releases) ranks latest job →
-    SlotFilled releases deadlines ranks arrivals left table t job left table bits next gone u latest
-slot_sleeps releases deadlines ranks arrivals left table t bits next gone u latest job e ready s =
-    let off : wakeful (get_or table t 0) ≡ false = rw (eq-eqb (get_or table t 0) asleep e) in
-    record {
-      table_is = rw off (sym (ap (set table t) (sym e) ∙ set-get_or table t 0));
-      left_is = rw off;
-      left_long = refl;
-      ready = ready_later releases deadlines ranks arrivals left t bits next gone u ready;
-      stands = rw off s;
-    }
+module _ {jobs : OrderedJobs} {left : List ℕ} {t : ℕ} {last fresh : Ready} (g : Lookable jobs left t last) (k : Looked jobs left t fresh) (latest : ℕ) where
+  abbrev releases : List ℕ
+  releases = jobs.releases.now
 
-module _
-    {releases deadlines ranks arrivals left : List ℕ} {t bits next gone u bits₀ next₀ gone₀ u₀ : ℕ}
-    (g : Lookable releases deadlines ranks arrivals left t bits₀ next₀ gone₀ u₀)
-    (k : Looked releases deadlines ranks arrivals left t bits next gone u) (latest : ℕ) where
+  abbrev deadlines : List ℕ
+  deadlines = jobs.deadlines.now
+
+  abbrev ranks : List ℕ
+  ranks = jobs.ranks.now
+
+  abbrev bits : ℕ
+  bits = fresh.mask
+
   abbrev F : Spans
   F = spans_of releases deadlines
 
   sorted : Sorted (length releases) (λ j. get_or deadlines j 0) ranks
-  sorted = g.queued.orders.by_deadline
+  sorted = jobs.orders.by_deadline
 
   few : length releases ≤ 64
-  few = g.queued.few
+  few = jobs.few
 
   room : length releases ≤ length left
-  room = g.queued.room
+  room = g.room
 
   are : bits ≡ mask (serves_rank (spans_of releases deadlines) ranks t (state_of left)) (length releases)
   are = looked_bits g k
 
-  known : (i : ℕ) → i < length releases → Known deadlines ranks i
-  known i l = record { listed = omega (arith, sorted.long); job = omega (arith, g.queued.orders.same, sorted.known i l) }
-
-  pub slot_can_go : (job : Option ℕ) → Stands (length releases) ranks latest job → (bits ≡ 0 → ⊥) → CanGo deadlines ranks bits latest
+  pub slot_can_go : (job : Option ℕ) → Stands (length releases) ranks latest job → (bits ≡ 0 → ⊥) → CanGo jobs bits latest
   slot_can_go job s some_wait =
       record {
         small = below job s;
-        lowest_known = known (lowest bits) (lowest_below releases deadlines ranks left sorted few room t bits are latest some_wait);
-        latest_known = λ on. known latest (set_waits releases deadlines ranks left sorted few room t bits are latest on).below;
+        lowest_known = lowest_below releases deadlines ranks left sorted few room t bits are latest some_wait;
+        latest_known = λ on. (set_waits releases deadlines ranks left sorted few room t bits are latest on).below;
       }
     where
       below : (o : Option ℕ) → Stands (length releases) ranks latest o → latest < 64
@@ -87,7 +82,7 @@ module _
   filled : (table : List ℕ) (job : Option ℕ) (byte bits' : ℕ) (left' : List ℕ) (latest' : ℕ) → (get_or table t 0 ≡ asleep → ⊥) →
       After F ranks t left (onward F t left job) byte bits' left' → length left' ≡ length left →
       Stands (length releases) ranks latest' (latest_of (onward F t left job) job) →
-      SlotFilled releases deadlines ranks arrivals left table t job left' (set table t byte) bits' next gone u latest'
+      SlotFilled jobs left table t job left' (set table t byte) (record { ready = record fresh { mask = bits' }; latest = latest' })
   filled table job byte bits' left' latest' n a long s =
       let on : wakeful (get_or table t 0) ≡ true = rw (ne_eqb (get_or table t 0) asleep n) in
       record {
@@ -99,16 +94,16 @@ module _
       }
 
   pub slot_idles : (table : List ℕ) (job : Option ℕ) → (get_or table t 0 ≡ asleep → ⊥) → Stands (length releases) ranks latest job → bits ≡ 0 →
-      SlotFilled releases deadlines ranks arrivals left table t job left (set table t idle) 0 next gone u latest
+      SlotFilled jobs left table t job left (set table t idle) (record { ready = fresh; latest = latest })
   slot_idles table job n s z =
       let nobody = none_goes releases deadlines ranks left sorted few room t bits are latest job z in
-      filled table job idle 0 left latest n
-      (rw nobody (none_after F ranks left sorted few room t bits are z)) refl
+      filled table job idle bits left latest n
+      (rw nobody (subst (λ (x : ℕ). After F ranks t left none idle x left) (sym z) (none_after F ranks left sorted few room t bits are z))) refl
       (subst (λ (o : Option ℕ). Stands (length releases) ranks latest (latest_of o job)) (sym nobody) s)
 
   pub slot_runs : (table : List ℕ) (job : Option ℕ) (r byte bits' : ℕ) (left' : List ℕ) → (get_or table t 0 ≡ asleep → ⊥) → Stands (length releases) ranks latest job → (bits ≡ 0 → ⊥) →
       r ≡ going_rank deadlines ranks bits latest → Serves r bits ranks left byte bits' left' → length left' ≡ length left →
-      SlotFilled releases deadlines ranks arrivals left table t job left' (set table t byte) bits' next gone u r
+      SlotFilled jobs left table t job left' (set table t byte) (record { ready = record fresh { mask = bits' }; latest = r })
   slot_runs table job r byte bits' left' n s some_wait e v long =
       let (waits, takes) = going_takes releases deadlines ranks left sorted few room t bits are latest job s some_wait in
       let w : Waits F ranks t left r = subst (Waits F ranks t left) (sym e) waits in
@@ -145,44 +140,27 @@ fill_turn F t l m latest true S e =
     ap (λ (x : List ℕ). run_byte o ∷ x) (fill_state F (suc t) (serve l o) m (latest_of o latest) S (serve_state l o ∙ sym e))
 
 -- the slots before t are filled; `table₀` and `left₀` are what it began with
-pub record FilledTo (releases deadlines ranks left₀ table₀ left table : List ℕ) (t latest : ℕ) : Type 0 where
+pub record FilledTo (jobs : OrderedJobs) (left₀ table₀ left table : List ℕ) (t latest : ℕ) : Type 0 where
   pub same_long : length table ≡ length table₀
   pub left_long : length left ≡ length left₀
   pub rest : (i : ℕ) → t ≤ i → get_or table i 0 ≡ get_or table₀ i 0
   pub job : Option ℕ
-  pub stands : Stands (length releases) ranks latest job
+  pub stands : Stands (length jobs.releases.now) jobs.ranks.now latest job
   pub all :
-      fill_by (onward (spans_of releases deadlines)) 0 left₀ none (awake_of table₀)
-      ≡ take t table ++ fill_by (onward (spans_of releases deadlines)) t left job (awake_of (drop t table₀))
+      fill_by (onward (spans_of jobs.releases.now jobs.deadlines.now)) 0 left₀ none (awake_of table₀)
+      ≡ take t table ++ fill_by (onward (spans_of jobs.releases.now jobs.deadlines.now)) t left job (awake_of (drop t table₀))
 
-pub fill_starts : (releases deadlines ranks left table : List ℕ) → FilledTo releases deadlines ranks left table left table 0 0
-fill_starts releases deadlines ranks left table =
+pub fill_starts : (jobs : OrderedJobs) (left table : List ℕ) → FilledTo jobs left table left table 0 0
+fill_starts jobs left table =
     record { same_long = refl; left_long = refl; rest = λ i l. refl; job = none; stands = refl; all = refl }
 
-module _ (releases deadlines ranks arrivals : List ℕ) where
-  pub fill_slot :
-      (volumes left₀ table₀ left table : List ℕ) (t bits next gone u latest : ℕ) → Fillable releases deadlines volumes ranks arrivals table₀ → length left₀ ≡ 64 →
-      t < length table → FilledTo releases deadlines ranks left₀ table₀ left table t latest → ReadyAt releases deadlines ranks arrivals left t bits next gone u →
-      SlotFillable releases deadlines ranks arrivals left table t bits next gone u latest
-  fill_slot volumes left₀ table₀ left table t bits next gone u latest f long l r ready =
-      record {
-        inside = l;
-        lookable = record {
-          short = omega (arith, f.short, r.same_long);
-          queued = record { orders = f.orders; few = f.few; room = omega (arith, f.few, long, r.left_long) };
-          ready = ready;
-        };
-        job = r.job;
-        stands = r.stands;
-      }
-
+module _ (jobs : OrderedJobs) where
   pub fill_more :
-      (left₀ table₀ left table : List ℕ) (t latest : ℕ) (left' table' : List ℕ) (bits next gone u latest' : ℕ) → t < length table →
-      (r : FilledTo releases deadlines ranks left₀ table₀ left table t latest) →
-      SlotFilled releases deadlines ranks arrivals left table t r.job left' table' bits next gone u latest' →
-      FilledTo releases deadlines ranks left₀ table₀ left' table' (t + 1) latest'
-  fill_more left₀ table₀ left table t latest left' table' bits next gone u latest' l r d =
-      let F = spans_of releases deadlines in
+      (left₀ table₀ left table : List ℕ) (t latest : ℕ) (left' table' : List ℕ) (last' : Running) → t < length table →
+      (r : FilledTo jobs left₀ table₀ left table t latest) → SlotFilled jobs left table t r.job left' table' last' →
+      FilledTo jobs left₀ table₀ left' table' (t + 1) last'.latest
+  fill_more left₀ table₀ left table t latest left' table' last' l r d =
+      let F = spans_of jobs.releases.now jobs.deadlines.now in
       let b = wakeful (get_or table t 0) in
       let o = ran F b t left r.job in
       let here : wakeful (get_or table₀ t 0) ≡ b = ap wakeful (sym (r.rest t (omega arith))) in
@@ -206,13 +184,13 @@ module _ (releases deadlines ranks arrivals : List ℕ) where
       taken : (s v : ℕ) → s < length table → table' ≡ set table s v → take s table ++ (v ∷ []) ≡ take (suc s) table'
       taken s v m e = sym (ap (take (suc s)) e ∙ take-suc-set table s v m)
 
-  pub fill_ready : (left table : List ℕ) (t : ℕ) (job : Option ℕ) (left' table' : List ℕ) (bits next gone u latest : ℕ) → SlotFilled releases deadlines ranks arrivals left table t job left' table' bits next gone u latest →
-      ReadyAt releases deadlines ranks arrivals left' (t + 1) bits next gone u
-  fill_ready left table t job left' table' bits next gone u latest d = rw add-one d.ready
+  pub fill_ready : (left table : List ℕ) (t : ℕ) (job : Option ℕ) (left' table' : List ℕ) (last' : Running) → SlotFilled jobs left table t job left' table' last' →
+      ReadyAt jobs.releases.now jobs.deadlines.now jobs.ranks.now jobs.arrivals.now left' (t + 1) last'.ready
+  fill_ready left table t job left' table' last' d = rw add-one d.ready
 
-pub fill_ends : (releases deadlines ranks volumes left₀ table₀ left table : List ℕ) (t latest : ℕ) → Units volumes left₀ → length table ≤ t → FilledTo releases deadlines ranks left₀ table₀ left table t latest → Fills releases deadlines volumes table₀ table
+pub fill_ends : (jobs : OrderedJobs) (volumes left₀ table₀ left table : List ℕ) (t latest : ℕ) → Units volumes left₀ → length table ≤ t → FilledTo jobs left₀ table₀ left table t latest → Fills jobs.releases.now jobs.deadlines.now volumes table₀ table
 unfolding fill_by
-fill_ends releases deadlines ranks volumes left₀ table₀ left table t latest units l r =
+fill_ends jobs volumes left₀ table₀ left table t latest units l r =
     record {
       run_is = is;
       step_is = λ J p long full.
@@ -226,20 +204,20 @@ fill_ends releases deadlines ranks volumes left₀ table₀ left table t latest 
     nothing : (x : ℕ) → length table₀ ≤ x → drop x table₀ ≡ []
     nothing x m = drop_of_length-le table₀ {i = x} m
 
-    is : table ≡ fill_by (onward (spans_of releases deadlines)) 0 volumes none (awake_of table₀)
+    is : table ≡ fill_by (onward (spans_of jobs.releases.now jobs.deadlines.now)) 0 volumes none (awake_of table₀)
     is =
         sym (
-        fill_state (spans_of releases deadlines) 0 volumes left₀ none (awake_of table₀) (sym units.same)
+        fill_state (spans_of jobs.releases.now jobs.deadlines.now) 0 volumes left₀ none (awake_of table₀) (sym units.same)
         ∙ r.all
-        ∙ ap (λ (x : List ℕ). take t table ++ fill_by (onward (spans_of releases deadlines)) t left r.job (awake_of x)) (nothing t (omega (arith, r.same_long)))
+        ∙ ap (λ (x : List ℕ). take t table ++ fill_by (onward (spans_of jobs.releases.now jobs.deadlines.now)) t left r.job (awake_of x)) (nothing t (omega (arith, r.same_long)))
         ∙ append-nil (take t table)
         ∙ take_all t table l
         )
 
     -- for a list with these parts
-    ran_for : (J : Jobs) → ListsOf J releases deadlines volumes → table ≡ fill_by (onward (spans J)) 0 J.volumes none (awake_of table₀)
+    ran_for : (J : Jobs) → ListsOf J jobs.releases.now jobs.deadlines.now volumes → table ≡ fill_by (onward (spans J)) 0 J.volumes none (awake_of table₀)
     ran_for J p =
-        let same : spans_of releases deadlines ≡ spans J = sym (ap₂ spans_of p.releases_are p.deadlines_are) in
+        let same : spans_of jobs.releases.now jobs.deadlines.now ≡ spans J = sym (ap₂ spans_of p.releases_are p.deadlines_are) in
         is
         ∙ ap (λ (F : Spans). fill_by (onward F) 0 volumes none (awake_of table₀)) same
         ∙ ap (λ (v : List ℕ). fill_by (onward (spans J)) 0 v none (awake_of table₀)) (sym p.volumes_are)

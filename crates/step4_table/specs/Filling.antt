@@ -7,15 +7,13 @@ use Rattle.steps.specs.Workable.{workable}
 use Rattle.steps.specs.Table.{Rule, going_on, fill_by, table_of}
 use Rattle.laws_edf.specs.Run.{Spans, servable, slot_byte}
 use Rattle.laws_edf.specs.Search.{state_of}
-use Rattle.laws_edf.specs.Orders.{Orders}
+use Rattle.orders.specs.declared.ordered_jobs.OrderedJobs.{OrderedJobs}
 use Rattle.orders.specs.Lists.{ListsOf}
 use Rattle.queue.specs.Ranks.{spans_of}
 
 -- what step 4 is called with
-pub record Fillable (releases deadlines volumes ranks arrivals table : List ℕ) : Type 0 where
-  pub few : length releases ≤ 64
-  pub same : length volumes ≡ length releases
-  pub orders : Orders releases deadlines ranks arrivals
+pub record Fillable (jobs : OrderedJobs) (volumes table : List ℕ) : Type 0 where
+  pub same : length volumes ≡ length jobs.releases.now
   pub short : length table < 65536
 
 -- step 4's rule, but with the test that a job is not past its deadline

@@ -6,10 +6,12 @@ use Rattle.steps.specs.Table.{latest_of}
 use Rattle.laws_edf.specs.Run.{Spans, after, slot_byte}
 use Rattle.laws_edf.specs.Search.{state_of}
 use Rattle.laws_edf.specs.Orders.{job_at}
+use Rattle.orders.specs.declared.ordered_jobs.OrderedJobs.{OrderedJobs}
 use Rattle.queue.specs.Ranks.{spans_of}
 use Rattle.queue.specs.Serving.{lowest}
 use Rattle.queue.specs.Arrivals.{goes_at, ReadyAt}
-use Rattle.queue.specs.Runs.{Known, Lookable}
+use Rattle.queue.specs.Runs.{Lookable}
+use Rattle.step4_table.specs.declared.Running.{Running}
 use Rattle.step4_table.specs.Filling.{onward}
 
 -- the bit of rank k: 1 if it waits
@@ -25,10 +27,10 @@ going_rank deadlines ranks bits latest =
     ]
 
 -- all that this asks for can be read
-pub record CanGo (deadlines ranks : List ℕ) (bits latest : ℕ) : Type 0 where
+pub record CanGo (jobs : OrderedJobs) (bits latest : ℕ) : Type 0 where
   pub small : latest < 64
-  pub lowest_known : Known deadlines ranks (lowest bits)
-  pub latest_known : (bit_at bits latest ≡ 0 → ⊥) → Known deadlines ranks latest
+  pub lowest_known : lowest bits < length jobs.releases.now
+  pub latest_known : (bit_at bits latest ≡ 0 → ⊥) → latest < length jobs.releases.now
 
 -- the rank is that of the job of the latest working slot. Where there is none it is 0, which is the lowest rank wherever it waits and so goes on only where it
 -- would run anyway
@@ -37,21 +39,21 @@ Stands n ranks latest none = latest ≡ 0
 Stands n ranks latest (some j) = (latest < n) × (job_at ranks latest ≡ j)
 
 -- slot t can be filled
-pub record SlotFillable (releases deadlines ranks arrivals left table : List ℕ) (t bits next gone u latest : ℕ) : Type 0 where
+pub record SlotFillable (jobs : OrderedJobs) (left table : List ℕ) (t : ℕ) (last : Running) : Type 0 where
   pub inside : t < length table
-  pub lookable : Lookable releases deadlines ranks arrivals left t bits next gone u
+  pub lookable : Lookable jobs left t last.ready
   pub job : Option ℕ
-  pub stands : Stands (length releases) ranks latest job
+  pub stands : Stands (length jobs.releases.now) jobs.ranks.now last.latest job
 
 -- the job that slot t runs; a sleeping slot runs none
 abbrev pub ran : Spans → Bool → ℕ → List ℕ → Option ℕ → Option ℕ
 ran F false t left latest = none
 ran F true t left latest = onward F t left latest
 
--- slot t has been filled, where `job` is that of the latest working slot before it, and `latest` the rank of the latest one now
-pub record SlotFilled (releases deadlines ranks arrivals left table : List ℕ) (t : ℕ) (job : Option ℕ) (left' table' : List ℕ) (bits next gone u latest : ℕ) : Type 0 where
-  pub table_is : table' ≡ set table t (slot_byte (wakeful (get_or table t 0)) (ran (spans_of releases deadlines) (wakeful (get_or table t 0)) t left job))
-  pub left_is : state_of left' ≡ after (state_of left) (ran (spans_of releases deadlines) (wakeful (get_or table t 0)) t left job)
+-- slot t has been filled, where `job` is that of the latest working slot before it, and `last'` has the rank of the latest one now
+pub record SlotFilled (jobs : OrderedJobs) (left table : List ℕ) (t : ℕ) (job : Option ℕ) (left' table' : List ℕ) (last' : Running) : Type 0 where
+  pub table_is : table' ≡ set table t (slot_byte (wakeful (get_or table t 0)) (ran (spans_of jobs.releases.now jobs.deadlines.now) (wakeful (get_or table t 0)) t left job))
+  pub left_is : state_of left' ≡ after (state_of left) (ran (spans_of jobs.releases.now jobs.deadlines.now) (wakeful (get_or table t 0)) t left job)
   pub left_long : length left' ≡ length left
-  pub ready : ReadyAt releases deadlines ranks arrivals left' (suc t) bits next gone u
-  pub stands : Stands (length releases) ranks latest (latest_of (ran (spans_of releases deadlines) (wakeful (get_or table t 0)) t left job) job)
+  pub ready : ReadyAt jobs.releases.now jobs.deadlines.now jobs.ranks.now jobs.arrivals.now left' (suc t) last'.ready
+  pub stands : Stands (length jobs.releases.now) jobs.ranks.now last'.latest (latest_of (ran (spans_of jobs.releases.now jobs.deadlines.now) (wakeful (get_or table t 0)) t left job) job)

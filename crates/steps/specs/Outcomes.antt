@@ -1,6 +1,6 @@
 -- 01, "From list to table" and "Refused, and where": the planner's answer and what a lent table holds afterwards, for every input. The
 -- number and the values that 01 gives each case of the answer are in `sched/specs/Answers`.
-use Rattle.std.specs.Prelude.{ℕ, List, ◌++◌, length, drop}
+use Rattle.std.specs.Prelude.{ℕ, List, ◌++◌, length, drop, Err, Ok}
 use Rattle.std.proofs.Math.Option.{Option, none, some}
 use Rattle.sched.specs.Jobs.{Jobs}
 use Rattle.sched.specs.Checks.{and_then, length_check, check_of}
@@ -10,7 +10,6 @@ use Rattle.steps.specs.Overload.{shown_overload}
 use Rattle.steps.specs.Skeleton.{least_skeleton}
 use Rattle.steps.specs.Extension.{woken}
 use Rattle.steps.specs.Steps.{plan_table}
-use Rattle.sched.specs.declared.Checked.TheVariants.{Passed, Refused as Faulty}
 use Rattle.sched.specs.declared.PlanFigures.{PlanFigures}
 use Rattle.sched.specs.declared.Outcome.{Outcome}
 use Rattle.sched.specs.declared.Outcome.TheVariants.{Planned, Overloaded, Refused}
@@ -30,8 +29,8 @@ pub record Plan : Type 0 where
 unfoldable pub early_answer : Jobs → ℕ → Option Outcome
 early_answer J have =
     elim (and_then (check_of J) (length_check have J.horizon)) [
-      | Faulty r ↦ some (Refused r)
-      | Passed ↦ elim (shown_overload J) [ none ↦ none | some i ↦ some (Overloaded i) ]
+      | Err r ↦ some (Refused r)
+      | (Ok tt) ↦ elim (shown_overload J) [ none ↦ none | some i ↦ some (Overloaded i) ]
     ]
 
 -- A planner is what it makes of a list that passes the checks and has no overloaded interval, and of a table that is long enough.

@@ -5,6 +5,10 @@
 ghost use Rattle.std.specs.Prelude.{◌≡◌, ◌+◌, ◌*◌, ◌/◌, ◌%◌, ◌^◌, ◌<◌, length, take, replicate, slice_index, slice_set};
 ghost use Rattle.test_bytes.specs.Bytes.{digest_from, turns_from};
 
+mod list; // list.rt: a list of jobs
+
+pub use list::List;
+
 // Prints the bytes as they are.
 pub fn text(s: &[u8]) {
     io::write_all(1, s);
@@ -40,13 +44,8 @@ pub fn mixed(sum: u64, x: u64) -> u64
 pub fn digest_from(sum: u64, out: &[u8]) -> u64
     ensures { result ≡ digest_from sum out.now }
 {
-    let mut all = sum;
-    let mut i = 0;
-    while i < out.len() {
-        all = mixed(all, out[i] as u64);
-        i += 1;
-    }
-    all
+    out.iter()
+        .fold(sum, |all, &byte| mixed(all, u64::from(byte)))
 }
 
 // A number that depends on every byte and its place: the digest of all bytes from 0 on, so 0 for no byte.
@@ -56,106 +55,84 @@ pub fn digest(out: &[u8]) -> u64
     digest_from(0, out)
 }
 
-// The next state of a linear congruence; its low bits are better left alone.
-pub fn next(state: u64) -> u64
-    ensures { result ≡ (state % 2147483648 * 1103515245 + 12345) % 2147483648 }
-{
-    (state % 2147483648 * 1103515245 + 12345) % 2147483648
+// How often each of N things came, and a digest of what else there is to say.
+#[derive(Drop)]
+pub struct Tally<const N: usize> {
+    pub counts: [u64; N],
+    pub sum: u64,
 }
 
-// A number below m from a state, whose lowest bits are left alone. That it is below m is there for safety.
-pub fn below(state: u64, m: u64) -> u64
-    requires { 0 < m }
-    ensures { (result ≡ state / 65536 % m) × (result < m) }
-{
-    state / 65536 % m
-}
+impl<const N: usize> Tally<N> {
+    // The tally of nothing.
+    pub fn new() -> Self
+        ensures { (result.counts ≡ replicate N 0) × (result.sum ≡ 0) }
+    {
+        Tally {
+            counts: [0; N],
+            sum: 0,
+        }
+    }
 
-// The sum modulo 2^64.
-pub fn plus(x: u64, y: u64) -> u64
-    ensures { result ≡ (x + y) % 2 ^ 64 }
-{
-    std::num::wrapping_add_u64(x, y)
-}
+    // One more of a thing; nothing from N on.
+    pub fn count(&mut self, at: usize)
+        ensures { (self.new.counts ≡ slice_set self.old.counts at ((slice_index self.old.counts at + 1) % 2 ^ 64)) × (self.new.sum ≡ self.old.sum) }
+    {
+        if at < N {
+            self.counts[at] = self.counts[at].wrapping_add(1);
+        }
+    }
 
-// One more at an index; nothing past the end.
-pub fn count(counts: &mut [u64], at: usize)
-    ensures { counts.new ≡ slice_set counts.old at ((slice_index counts.old at + 1) % 2 ^ 64) }
-{
-    if at < counts.len() {
-        counts[at] = std::num::wrapping_add_u64(counts[at], 1);
+    // The digest with one number more.
+    pub fn mix(&mut self, x: u64)
+        ensures { (self.new.counts ≡ self.old.counts) × (self.new.sum ≡ (self.old.sum % 1000003 * 257 + x % 1000003 + 1) % 1000003) }
+    {
+        self.sum = mixed(self.sum, x);
+    }
+
+    // Prints how often each of these things came; nothing from N on.
+    pub fn show(&self, things: &[usize]) {
+        for &at in things {
+            if at < N {
+                number(self.counts[at]);
+            }
+        }
     }
 }
 
-// Prints the count at an index; nothing past the end.
-pub fn entry(counts: &[u64], at: usize) {
-    if at < counts.len() {
-        number(counts[at]);
+// Numbers by chance, one after the other, by a linear congruence: the state behind the last one.
+#[derive(Drop)]
+pub struct Chance {
+    pub state: u64,
+}
+
+impl Chance {
+    // A number, which is the next state without its lowest bits: they are better left alone.
+    pub fn draw(&mut self) -> u64
+        ensures { (self.new.state ≡ (self.old.state % 2147483648 * 1103515245 + 12345) % 2147483648) × (result ≡ self.new.state / 65536) }
+    {
+        self.state = (self.state % 2147483648 * 1103515245 + 12345) % 2147483648;
+        self.state / 65536
+    }
+
+    // A number below m. That it is below m is there for safety.
+    pub fn below(&mut self, m: u64) -> u64
+        requires { 0 < m }
+        ensures { (self.new.state ≡ (self.old.state % 2147483648 * 1103515245 + 12345) % 2147483648) × (result ≡ self.new.state / 65536 % m) × (result < m) }
+    {
+        self.draw() % m
     }
 }
 
 // Prints a line of all bytes.
 pub fn bytes(out: &[u8]) {
-    let mut i = 0;
-    while i < out.len() {
-        number(out[i] as u64);
-        i += 1;
+    for &byte in out {
+        number(u64::from(byte));
     }
     end_line();
 }
 
-// Stores the byte in slot `at`; nothing past the end.
-pub fn put(t: &mut [u8], at: usize, byte: u8)
-    ensures { t.new ≡ slice_set t.old at byte }
-{
-    if at < t.len() {
-        t[at] = byte;
-    }
-}
-
-// Stores the byte in every slot.
-pub fn fill(t: &mut [u8], byte: u8)
-    ensures { t.new ≡ replicate (length t.old) byte }
-{
-    let mut i = 0;
-    while i < t.len() {
-        t[i] = byte;
-        i += 1;
-    }
-}
-
-// Makes slots 0, 2, 4, .. idle (254), the others asleep (255).
-pub fn alternate(t: &mut [u8])
-    ensures { t.new ≡ turns_from (length t.old) 0 }
-{
-    let mut i = 0;
-    while i < t.len() {
-        if i % 2 == 0 {
-            t[i] = 254;
-            i += 1;
-        } else {
-            t[i] = 255;
-            i += 1;
-        }
-    }
-}
-
-// The byte at an index, 0 past the end.
-pub fn byte(s: &[u8], i: usize) -> u8
-    ensures { result ≡ slice_index s.now i }
-{
-    if i < s.len() { s[i] } else { 0 }
-}
-
-// The entry at an index, 0 past the end.
-pub fn at(s: &[u16], i: usize) -> u16
-    ensures { result ≡ slice_index s.now i }
-{
-    if i < s.len() { s[i] } else { 0 }
-}
-
-// Stores the entry at an index; nothing past the end.
-pub fn put_entry(list: &mut [u16], at: usize, x: u16)
+// Stores a byte, or an entry, at an index; nothing past the end.
+pub fn put<T: Copy>(list: &mut [T], at: usize, x: T)
     ensures { list.new ≡ slice_set list.old at x }
 {
     if at < list.len() {
@@ -163,22 +140,25 @@ pub fn put_entry(list: &mut [u16], at: usize, x: u16)
     }
 }
 
-// The first n bytes, or all where there are fewer.
-pub fn first_bytes(s: &[u8], n: usize) -> &[u8]
-    ensures { result.now ≡ take n s.now }
+// Stores the byte in every slot.
+pub fn fill(t: &mut [u8], byte: u8)
+    ensures { t.new ≡ replicate (length t.old) byte }
 {
-    if n <= s.len() {
-        return &s[..n];
-    }
-    s
+    t.fill(byte);
 }
 
-// The first n entries, or all where there are fewer.
-pub fn first_entries(s: &[u16], n: usize) -> &[u16]
+// Makes slots 0, 2, 4, .. idle (254), the others asleep (255).
+pub fn alternate(t: &mut [u8])
+    ensures { t.new ≡ turns_from (length t.old) 0 }
+{
+    for (i, byte) in t.iter_mut().enumerate() {
+        *byte = if i % 2 == 0 { 254 } else { 255 };
+    }
+}
+
+// The first n bytes or entries, or all where there are fewer.
+pub fn first<T>(s: &[T], n: usize) -> &[T]
     ensures { result.now ≡ take n s.now }
 {
-    if n <= s.len() {
-        return &s[..n];
-    }
-    s
+    &s[..n.min(s.len())]
 }

@@ -3,10 +3,9 @@ ghost use Rattle.std.specs.Prelude.{◌<◌, ◌≤◌};
 
 use crate::small::{Small, digit};
 
-// An overloaded interval, from a up to but without b; where none is found, a and b are 0.
-#[derive(Drop)]
-pub struct Found {
-    pub found: bool,
+// An overloaded interval, from a up to but without b.
+#[derive(Clone, Copy)]
+pub struct Interval {
     pub a: u32,
     pub b: u32,
 }
@@ -28,35 +27,22 @@ fn overloaded(l: Small, a: u32, b: u32) -> bool
     b - a < inside(l, 0, a, b) + inside(l, 1, a, b) + inside(l, 2, a, b) + inside(l, 3, a, b)
 }
 
-// The overloaded interval that ends at b and has the greatest start, if there is one.
-fn shown_at(l: Small, b: u32) -> Found {
-    let mut a = b;
-    while 0 < a {
-        a -= 1;
+// The start of the overloaded interval that ends at b and has the greatest start, if there is one.
+fn last_start(l: Small, b: u32) -> Option<u32> {
+    for a in (0..b).rev() {
         if overloaded(l, a, b) {
-            return Found { found: true, a, b };
+            return Some(a);
         }
     }
-    Found {
-        found: false,
-        a: 0,
-        b: 0,
-    }
+    None
 }
 
 // Step 1: the interval shown, if there is an overloaded one. It has the least end and, among those, the greatest start.
-pub fn shown(l: Small) -> Found {
-    for b in 1..9 {
-        if b <= l.h {
-            let at = shown_at(l, b);
-            if at.found {
-                return at;
-            }
+pub fn shown(l: Small) -> Option<Interval> {
+    for b in 1..=l.h.min(8) {
+        if let Some(a) = last_start(l, b) {
+            return Some(Interval { a, b });
         }
     }
-    Found {
-        found: false,
-        a: 0,
-        b: 0,
-    }
+    None
 }

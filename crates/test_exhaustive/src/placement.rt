@@ -1,5 +1,5 @@
 // The workable volume of a set of slots, by trying every placement.
-ghost use Rattle.std.specs.Prelude.{◌≡◌, ◌+◌, ◌*◌, ◌%◌, ◌^◌, ◌≤◌, max};
+ghost use Rattle.std.specs.Prelude.{◌≡◌, ◌+◌, ◌*◌, ◌%◌, ◌^◌, ◌≤◌};
 
 use crate::small::{Small, bit, digit};
 
@@ -12,41 +12,31 @@ pub fn can_run(l: Small, set: u32, left: u32, j: u32, t: u32) -> bool {
 pub fn after(left: u32, j: u32) -> u32
     ensures { (result + 2 ^ (j % 8 * 4)) % 2 ^ 32 ≡ left }
 {
-    let one: u32 = 1;
-    std::num::wrapping_sub_u32(left, one << (j % 8 * 4))
-}
-
-fn greater(a: u32, b: u32) -> u32
-    ensures { result ≡ max a b }
-{
-    if a < b { b } else { a }
+    left.wrapping_sub(1 << (j % 8 * 4))
 }
 
 // The most units that can be placed in the set's slots below `slots`, at most one a slot, each job in its own slots and at most as often
-// as its digit of `left` says. Slot `slots - 1` may take none or one of the jobs below `jobs`, every earlier slot none or any job.
+// as its digit of `left` says. The last of these slots takes none or one of the jobs.
 // That it is at most `slots` is for safety, so that one more can be added.
-fn most(l: Small, set: u32, left: u32, slots: u32, jobs: u32) -> u32
-    requires { jobs ≤ 4 }
+fn most(l: Small, set: u32, left: u32, slots: u32) -> u32
     ensures { result ≤ slots }
 {
     if slots == 0 {
         return 0;
     }
     let t = slots - 1;
-    if jobs == 0 {
-        return most(l, set, left, t, 4);
+    let mut best = most(l, set, left, t);
+    for j in 0..4 {
+        if can_run(l, set, left, j, t) {
+            best = best.max(1 + most(l, set, after(left, j), t));
+        }
     }
-    let j = jobs - 1;
-    let without = most(l, set, left, slots, j);
-    if !can_run(l, set, left, j, t) {
-        return without;
-    }
-    greater(without, 1 + most(l, set, after(left, j), t, 4))
+    best
 }
 
 // The workable volume of a set. The bound is for safety, so that one more can be added.
 pub fn workable(l: Small, set: u32) -> u32
     ensures { result ≤ 8 }
 {
-    most(l, set, l.p, 8, 4)
+    most(l, set, l.p, 8)
 }

@@ -1,18 +1,12 @@
 // The least energy over every feasible table, from the list's start.
-ghost use Rattle.std.specs.Prelude.{◌≡◌, ◌+◌, ◌*◌, ◌≤◌, min};
-ghost use Rattle.test_exhaustive.specs.Digits.{digit_of};
+ghost use Rattle.std.specs.Prelude.{◌+◌, ◌*◌, ◌<◌, ◌≤◌, IfSome};
 
 use crate::placement::{after, can_run};
-use crate::small::{Small, digit};
+use crate::small::{Small, units};
 
 // This much or more stands for no table at all; every table of eight slots costs less.
-pub const NONE: u32 = 1000000;
-
-fn lesser(a: u32, b: u32) -> u32
-    ensures { result ≡ min a b }
-{
-    if a < b { a } else { b }
-}
+// kept: a number, not `None`, so that the recursion adds and takes the lesser as for any other energy.
+const NONE: u32 = 1000000;
 
 // What is paid behind a slot or the start: q if it is asleep and an awake slot follows, else 0. So a run is paid in front of its first slot.
 // The bound is for safety, so that energies can be added.
@@ -22,21 +16,14 @@ fn paid(q: u16, awake: bool, later_awake: bool) -> u32
     if awake || !later_awake {
         return 0;
     }
-    q as u32
-}
-
-// How many units are left of the four jobs.
-fn units(left: u32) -> u32
-    ensures { result ≡ digit_of left 0 + digit_of left 1 + digit_of left 2 + digit_of left 3 }
-{
-    digit(left, 0) + digit(left, 1) + digit(left, 2) + digit(left, 3)
+    u32::from(q)
 }
 
 // The least energy of the slots below `slots`, with what is paid behind each of them and the start, over all ways to complete a feasible table
-// whose later part leaves the units `left` and begins with an awake slot or not; NONE or more if there is no way. Slot `slots - 1` holds 254, 255
-// or one of the jobs below `jobs`, every earlier slot 254, 255 or any job. The bound is for safety, so that a slot's cost can be added.
-fn least(l: Small, left: u32, slots: u32, jobs: u32, later_awake: bool) -> u32
-    requires { (jobs ≤ 4) × (slots ≤ 8) }
+// whose later part leaves the units `left` and begins with an awake slot or not; NONE or more if there is no way. The bound is for safety, so
+// that a slot's cost can be added.
+fn least(l: Small, left: u32, slots: u32, later_awake: bool) -> u32
+    requires { slots ≤ 8 }
     ensures { result ≤ 1000000 + 65536 * slots }
 {
     if slots == 0 {
@@ -47,27 +34,26 @@ fn least(l: Small, left: u32, slots: u32, jobs: u32, later_awake: bool) -> u32
         };
     }
     let t = slots - 1;
-    if jobs == 0 {
-        // Slot t runs no job: there is no way if the slots before it are fewer than the units.
-        if t < units(left) {
-            return NONE;
+    // Slot t runs no job: there is no way if the slots before it are fewer than the units.
+    let mut best = NONE;
+    if units(left) <= t {
+        let asleep = paid(l.q, false, later_awake) + least(l, left, t, false);
+        let idle = 1 + least(l, left, t, true);
+        best = asleep.min(idle);
+    }
+    // Slot t runs a job.
+    for j in 0..4 {
+        if can_run(l, 255, left, j, t) {
+            best = best.min(1 + least(l, after(left, j), t, true));
         }
-        return lesser(
-            paid(l.q, false, later_awake) + least(l, left, t, 4, false),
-            1 + least(l, left, t, 4, true),
-        );
     }
-    let j = jobs - 1;
-    let without = least(l, left, slots, j, later_awake);
-    if !can_run(l, 255, left, j, t) {
-        return without;
-    }
-    lesser(without, 1 + least(l, after(left, j), t, 4, true))
+    best
 }
 
-// The least energy of a feasible table, or NONE or more where no table is feasible. The contract only bounds it.
-pub fn least_energy(l: Small) -> u32
-    ensures { result ≤ 1524288 }
+// The least energy of a feasible table, or none where no table is feasible. The contract only bounds it.
+pub fn least_energy(l: Small) -> Option<u32>
+    ensures { IfSome result (λ e. e < 1000000) }
 {
-    least(l, l.p, l.h % 9, 4, false)
+    let e = least(l, l.p, l.h % 9, false);
+    if e < NONE { Some(e) } else { None }
 }

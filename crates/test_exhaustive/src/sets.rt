@@ -4,7 +4,7 @@ ghost use Rattle.std.specs.Prelude.{◌<◌, ◌≤◌};
 use crate::small::{Small, bit, digit};
 
 // The energy of a set from a start, its number of slots, and its number of runs.
-#[derive(Drop)]
+#[derive(Clone, Copy)]
 pub struct Cost {
     pub energy: u32,
     pub awake: u32,
@@ -33,7 +33,7 @@ fn spent(q: u16, start: bool, set: u32, t: u32) -> u32
     ensures { result ≤ 65536 }
 {
     if wakes(start, set, t) {
-        return 1 + q as u32;
+        return 1 + u32::from(q);
     }
     bit(set, t)
 }
@@ -59,50 +59,37 @@ pub fn cost_of(q: u16, start: bool, set: u32) -> Cost
 
 // Whether the set has a slot among r-1 to d of job j, as far as these lie in 0 to h-1.
 fn touches(l: Small, j: u32, set: u32) -> bool {
-    for t in 0..8 {
-        if t < l.h && digit(l.r, j) <= t + 1 && t <= digit(l.d, j) && bit(set, t) == 1 {
-            return true;
-        }
-    }
-    false
+    (0..l.h.min(8)).any(|t| digit(l.r, j) <= t + 1 && t <= digit(l.d, j) && bit(set, t) == 1)
 }
 
 // Whether the set is a skeleton: it has such a slot for each of the n jobs.
 fn is_skeleton(l: Small, set: u32) -> bool {
-    for j in 0..4 {
-        if j < l.n && !touches(l, j, set) {
-            return false;
-        }
-    }
-    true
+    (0..l.n.min(4)).all(|j| touches(l, j, set))
 }
 
-// Whether the two sets differ in a slot below 8, and x is asleep in the first such slot.
-fn precedes(x: u32, y: u32) -> bool {
-    for t in 0..8 {
-        if bit(x, t) != bit(y, t) {
-            return bit(x, t) == 0;
-        }
-    }
-    false
-}
-
-// Whether x costs less than y, or as much and is asleep in the first slot in which they differ.
-fn better(q: u16, start: bool, x: u32, y: u32) -> bool {
-    let a = cost_of(q, start, x);
-    let b = cost_of(q, start, y);
-    a.energy < b.energy || a.energy == b.energy && precedes(x, y)
-}
-
-// Step 2: the skeleton of least energy and, among equals, the one that is asleep at the first slot where two differ.
-// All slots below h together are a skeleton of every list, so the search begins with them.
-pub fn least_skeleton(l: Small) -> u32 {
+// Of the allowed sets of slots below h the cheapest from the list's start and, among equals, the one of least rank.
+// All slots below h together must be allowed.
+pub fn cheapest<A: Fn(u32) -> bool, R: Fn(u32) -> u32>(l: Small, allowed: A, rank: R) -> u32
+    requires allowed { A.IsAlwaysCallable allowed }
+    requires rank { R.IsAlwaysCallable rank }
+{
     let all = 255 >> (8 - l.h % 9);
     let mut best = all;
-    for set in 0..256 {
-        if set <= all && is_skeleton(l, set) && better(l.q, l.start, set, best) {
-            best = set;
+    let mut least = (cost_of(l.q, l.start, all).energy, rank(all));
+    for set in 0..all {
+        if allowed(set) {
+            let here = (cost_of(l.q, l.start, set).energy, rank(set));
+            if here < least {
+                best = set;
+                least = here;
+            }
         }
     }
     best
+}
+
+// Step 2: the skeleton of least energy and, among equals, the one that is asleep at the first slot where two differ: with slot 0 as the highest bit
+// it is the least number. All slots below h together are a skeleton of every list.
+pub fn least_skeleton(l: Small) -> u32 {
+    cheapest(l, |set| is_skeleton(l, set), |set| set.reverse_bits())
 }

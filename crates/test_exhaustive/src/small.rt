@@ -5,6 +5,7 @@ ghost use Rattle.test_exhaustive.specs.Digits.{digit_of};
 // A list that passes the list checks, with at most four jobs, eight slots and volumes of at most 15: horizon h, wake cost q, n jobs.
 // Releases, deadlines and volumes are numbers with one hexadecimal digit a job, job 0 lowest; past the last job the digits are 0.
 // What the functions of this crate are said to yield, they yield for such lists and for sets of slots below h.
+// kept: numbers, not an array of jobs, for `digit` and `volume` promise equations over them.
 #[derive(Clone, Copy)]
 pub struct Small {
     pub h: u32,
@@ -33,13 +34,19 @@ pub fn bit(set: u32, t: u32) -> u32
 
 // The set and slot t, where t is below 32; a set that has the slot already stays as it is.
 pub fn with(set: u32, t: u32) -> u32 {
-    let one: u32 = 1;
-    set | (one << (t % 32))
+    set | (1 << (t % 32))
 }
 
-// The sum of the volumes: of the four lowest digits.
+// How many units the four jobs have together: the sum of the four lowest digits.
+pub fn units(p: u32) -> u32
+    ensures { result ≡ digit_of p 0 + digit_of p 1 + digit_of p 2 + digit_of p 3 }
+{
+    digit(p, 0) + digit(p, 1) + digit(p, 2) + digit(p, 3)
+}
+
+// The sum of the volumes.
 pub fn volume(l: Small) -> u32
     ensures { result ≡ digit_of l.p 0 + digit_of l.p 1 + digit_of l.p 2 + digit_of l.p 3 }
 {
-    digit(l.p, 0) + digit(l.p, 1) + digit(l.p, 2) + digit(l.p, 3)
+    units(l.p)
 }

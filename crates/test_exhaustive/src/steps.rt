@@ -1,11 +1,11 @@
 // Steps 3 and 4, the latter as card 6 of document 02 has it.
-ghost use Rattle.std.specs.Prelude.{◌≡◌, ◌*◌, ◌/◌, ◌%◌, ◌^◌, ◌<◌, ◌≤◌};
+ghost use Rattle.std.specs.Prelude.{◌<◌, ◌≤◌};
 
 use crate::placement::{after, workable};
 use crate::small::{Small, bit, digit, volume, with};
 
 // The set after step 3, and how many slots were woken.
-#[derive(Drop)]
+#[derive(Clone, Copy)]
 pub struct Extended {
     pub set: u32,
     pub added: u32,
@@ -18,18 +18,15 @@ fn next_to(set: u32, t: u32) -> bool
     0 < t && bit(set, t - 1) == 1 || bit(set, t + 1) == 1
 }
 
-// The slot that step 3 wakes next: the least one that is not in the set, touches it and raises its workable volume by one, or 8 where
-// there is none.
-fn least_helping(l: Small, set: u32) -> u32 {
+// The slot that step 3 wakes next: the least one that is not in the set, touches it and raises its workable volume by one, if there is one.
+fn least_helping(l: Small, set: u32) -> Option<u32> {
     let now = workable(l, set);
-    for t in 0..8 {
-        if t < l.h && bit(set, t) == 0 && next_to(set, t) {
-            if workable(l, with(set, t)) == now + 1 {
-                return t;
-            }
+    for t in 0..l.h.min(8) {
+        if bit(set, t) == 0 && next_to(set, t) && workable(l, with(set, t)) == now + 1 {
+            return Some(t);
         }
     }
-    8
+    None
 }
 
 // Step 3 from a skeleton: the set in which all volume can be worked, and how many slots were woken. Where no interval is overloaded a
@@ -38,92 +35,61 @@ pub fn extend(l: Small, skeleton: u32) -> Extended
     ensures { result.added ≤ 8 }
 {
     let mut set = skeleton;
-    let mut added = 0;
-    while added < 8 && workable(l, set) < volume(l) {
-        set = with(set, least_helping(l, set));
-        added += 1;
+    for added in 0..8 {
+        if volume(l) <= workable(l, set) {
+            return Extended { set, added };
+        }
+        if let Some(t) = least_helping(l, set) {
+            set = with(set, t);
+        }
     }
-    Extended { set, added }
+    Extended { set, added: 8 }
 }
 
 // Whether job j is released in slot t and unfinished: r ≤ t, and its digit of `left` is not 0.
-fn waits(l: Small, left: u32, t: u32, j: u32) -> bool {
-    digit(left, j) != 0 && digit(l.r, j) <= t
+fn waits(l: Small, left: u32, t: u32, j: u8) -> bool {
+    digit(left, u32::from(j)) != 0 && digit(l.r, u32::from(j)) <= t
 }
 
-// Whether job j has the earlier deadline, or the same one and the lower number.
-fn earlier(l: Small, j: u32, k: u32) -> bool {
-    digit(l.d, j) < digit(l.d, k) || digit(l.d, j) == digit(l.d, k) && j < k
+fn deadline(l: Small, j: u8) -> u32 {
+    digit(l.d, u32::from(j))
 }
 
-// Of the jobs that wait in slot t the one with the earliest deadline, on equal deadlines the lowest number, or 4 where there is none.
-fn first_due(l: Small, left: u32, t: u32) -> u32 {
-    let mut best = 4;
-    for j in 0..4 {
-        if waits(l, left, t, j) {
-            if best == 4 || earlier(l, j, best) {
-                best = j;
-            }
-        }
+// Of the jobs that wait in slot t the one with the earliest deadline, on equal deadlines the lowest number.
+fn first_due(l: Small, left: u32, t: u32) -> Option<u8> {
+    (0..4)
+        .filter(|j| waits(l, left, t, *j))
+        .min_by_key(|j| deadline(l, *j))
+}
+
+// The job that an awake slot t runs, if one waits: of those that wait and have the earliest deadline the one that ran in the latest earlier working
+// slot, `last`, if it is one of them, else the lowest number.
+fn job_of(l: Small, left: u32, t: u32, last: Option<u8>) -> Option<u8> {
+    let first = first_due(l, left, t)?;
+    match last {
+        Some(j) if waits(l, left, t, j) && deadline(l, j) == deadline(l, first) => Some(j),
+        _ => Some(first),
     }
-    best
 }
 
-// The job that an awake slot t runs: of those that wait and have the earliest deadline the one that ran in the latest earlier working slot, `last`, if it
-// is one of them, else the lowest number; 4 where none waits.
-fn job_of(l: Small, left: u32, t: u32, last: u32) -> u32 {
-    let first = first_due(l, left, t);
-    if last < 4 && waits(l, left, t, last) && digit(l.d, last) == digit(l.d, first) {
-        return last;
-    }
-    first
+// The job of the latest working slot, by looking through the table so far.
+fn latest(table: &[u8]) -> Option<u8> {
+    table.iter().copied().rev().find(|byte| *byte < 4)
 }
 
-// The table with byte b in slot t, whose byte is 0 so far; t is below 8.
-pub fn put(table: u64, t: u32, b: u32) -> u64 {
-    table | ((b as u64) << (t % 8 * 8))
-}
-
-// The byte of slot t, which is below 8.
-pub fn byte(table: u64, t: u32) -> u32
-    ensures { result ≡ table / 2 ^ (t % 8 * 8) % 256 }
-{
-    ((table >> (t % 8 * 8)) % 256) as u32
-}
-
-// The job of slot t, if one runs in it; else `last`.
-fn latest_of(table: u64, t: u32, last: u32) -> u32 {
-    let here = byte(table, t);
-    if here < 4 { here } else { last }
-}
-
-// The job of the latest working slot before t, by looking through the table, or 4 where there is none.
-fn latest_before(table: u64, t: u32) -> u32 {
-    let mut last = 4;
-    for s in 0..8 {
-        if s < t {
-            last = latest_of(table, s, last);
-        }
-    }
-    last
-}
-
-// Step 4: the table of a set, slot t in byte t: the number of the job that the slot runs, 254 where it is idle, 255 where it is not in
-// the set; so the slots from h to 7 hold 255.
-pub fn fill(l: Small, set: u32) -> u64 {
+// Step 4: the table of a set: in slot t the number of the job that it runs, 254 where it is idle, 255 where it is not in the set; so the slots
+// from h to 7 hold 255.
+pub fn fill(l: Small, set: u32) -> [u8; 8] {
     let mut left = l.p;
-    let mut table: u64 = 0;
+    let mut table = [255; 8];
     for t in 0..8 {
         if bit(set, t) == 1 {
-            let j = job_of(l, left, t, latest_before(table, t));
-            if j < 4 {
-                left = after(left, j);
-                table = put(table, t, j);
-            } else {
-                table = put(table, t, 254);
+            let slot = t as usize;
+            table[slot] = 254;
+            if let Some(j) = job_of(l, left, t, latest(&table[..slot])) {
+                table[slot] = j;
+                left = after(left, u32::from(j));
             }
-        } else {
-            table = put(table, t, 255);
         }
     }
     table

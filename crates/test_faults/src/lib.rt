@@ -6,7 +6,7 @@ ghost use Rattle.std.specs.Prelude.{false, ◌≡◌};
 ghost use Rattle.test_faults.specs.Faults.{wanted, found, left_out};
 
 // Release, deadline and volume.
-#[derive(Clone, Copy)]
+#[derive(Clone, Copy, Debug, PartialEq, Eq)]
 pub struct Job {
     pub r: u16,
     pub d: u16,
@@ -15,6 +15,7 @@ pub struct Job {
 
 // Faulty job k of seven: 0 to 2 have one fault each, 25, 15 and 26; 3 has 25 and 15, 4 has 25 and 26, 5 has 15 and 26; 6 and all further ones have all
 // three. No field has its absent value, so that the entry of such a job has all three.
+// kept: k is a number, since the contract speaks of each and the programs count through the seven.
 pub fn nth(k: usize) -> Job
     ensures { (found result.r result.d result.p ≡ wanted k) × (left_out result.r result.d result.p ≡ false) }
 {

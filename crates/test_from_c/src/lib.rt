@@ -7,17 +7,14 @@ ghost use Rattle.sched.specs.Jobs.{jobs_from};
 ghost use Rattle.tightest.specs.Answer.{tightness};
 ghost use Rattle.test_from_c.specs.Call.{ReadsFromC, TightestFromC};
 
-use record::RecordRead;
-use tightest::Tightness;
-
 // 0, or the number of the refusal.
 #[unsafe(no_mangle)]
 pub extern "C" fn read_record(bytes: &[u8], table: &mut [u8]) -> u32
     ensures { ReadsFromC bytes.now table.old result table.new }
 {
     match record::read(bytes, table) {
-        RecordRead::Read(_) => 0,
-        RecordRead::Refused(r) => r.number(),
+        Ok(_) => 0,
+        Err(r) => r.number(),
     }
 }
 
@@ -34,14 +31,13 @@ pub extern "C" fn find_tightest(
     ensures { (q : ℕ) (start : Bool) → TightestFromC (tightness (jobs_from h q start releases.now deadlines.now volumes.now)) ends.old result ends.new }
 {
     match tightest::find(h, releases, deadlines, volumes) {
-        Tightness::Found(x) => {
-            if ends.len() < 2 {
-                return x.slack;
+        Ok(x) => {
+            if 2 <= ends.len() {
+                ends[0] = x.a as u64;
+                ends[1] = x.b as u64;
             }
-            ends[0] = x.a as u64;
-            ends[1] = x.b as u64;
             x.slack
-        },
-        Tightness::Refused(_) => 65536,
+        }
+        Err(_) => 65536,
     }
 }

@@ -8,10 +8,9 @@ mod sweep; // sweep.rt: all of them
 
 // All lines from one start, which is whether the processor is awake before slot 0.
 fn lines(start: bool) {
-    sweep::each(start, 1);
-    sweep::each(start, 2);
-    sweep::each(start, 3);
-    sweep::each(start, 4);
+    for h in 1..5 {
+        sweep::each(start, h);
+    }
 }
 
 fn main() {

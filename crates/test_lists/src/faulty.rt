@@ -1,17 +1,16 @@
 // Faulty jobs, read and written: each of the seven at the first, a middle and the last place, and two faulty jobs in one list.
 use super::longest;
-use test_bytes::{first_bytes, put};
+use test_bytes::{first, put};
 use test_faults::Job;
 
 // Puts a job into the bytes of the longest list, as job j of its 64; each field stands there, low byte first.
 fn put_job(bytes: &mut [u8], j: usize, job: Job) {
     let at = 5 + 7 * (j % 64);
-    put(bytes, at + 1, (job.r % 256) as u8);
-    put(bytes, at + 2, (job.r / 256) as u8);
-    put(bytes, at + 3, (job.d % 256) as u8);
-    put(bytes, at + 4, (job.d / 256) as u8);
-    put(bytes, at + 5, (job.p % 256) as u8);
-    put(bytes, at + 6, (job.p / 256) as u8);
+    for (k, field) in [job.r, job.d, job.p].into_iter().enumerate() {
+        let [low, high] = field.to_le_bytes();
+        put(bytes, at + 2 * k + 1, low);
+        put(bytes, at + 2 * k + 2, high);
+    }
 }
 
 // Reads the longest list with two other jobs in it, j and i.
@@ -19,7 +18,7 @@ fn read_others(j: usize, job: Job, i: usize, other: Job) {
     let mut bytes = longest::LONGEST;
     put_job(&mut bytes, j, job);
     put_job(&mut bytes, i, other);
-    super::read(first_bytes(&bytes, 453));
+    super::read(first(&bytes, 453));
 }
 
 // Writes 64 jobs (1, 2, 65535), of which j and i are others, to a buffer that is one byte short.
@@ -44,17 +43,6 @@ fn both(j: usize, k: usize) {
     write_others(j, job, j, job);
 }
 
-// The same for all seven.
-fn all(j: usize) {
-    both(j, 0);
-    both(j, 1);
-    both(j, 2);
-    both(j, 3);
-    both(j, 4);
-    both(j, 5);
-    both(j, 6);
-}
-
 // Two faulty jobs: the lower one is told, whatever the two faults are.
 fn two(k: usize, other: usize) {
     read_others(5, test_faults::nth(k), 40, test_faults::nth(other));
@@ -63,9 +51,11 @@ fn two(k: usize, other: usize) {
 
 // All of it.
 pub fn each() {
-    all(0);
-    all(31);
-    all(63);
+    for j in [0, 31, 63] {
+        for k in 0..7 {
+            both(j, k);
+        }
+    }
     two(2, 0);
     two(1, 0);
     two(2, 1);

@@ -4,8 +4,9 @@
 
 ghost use Rattle.std.specs.Prelude.{◌≤◌};
 
-use joblist::{ListHeader, ListRead, ListWritten};
-use test_bytes::{first_bytes, first_entries, put};
+use joblist::ListHeader;
+use show::Lists;
+use test_bytes::{first, put};
 
 mod show; // show.rt: what a case prints
 mod longest; // longest.rt: the longest list
@@ -18,40 +19,36 @@ const EXAMPLE: [u8; 16] = [10, 0, 3, 0, 3, 2, 3, 0, 5, 8, 0, 2, 0, 4, 5, 0];
 // whether each list is as it was lent.
 fn read_into(bytes: &[u8], releases: &mut [u16], deadlines: &mut [u16], volumes: &mut [u16]) {
     test_bytes::text(b"read");
-    match joblist::read(bytes, releases, deadlines, volumes) {
-        ListRead::Read(list) => write_back(list, bytes, releases, deadlines, volumes),
-        ListRead::Refused(r) => show::not_read(r, releases, deadlines, volumes),
+    let answer = joblist::read(bytes, releases, deadlines, volumes);
+    let lists = Lists {
+        releases,
+        deadlines,
+        volumes,
+    };
+    match answer {
+        Ok(list) => write_back(list, bytes, lists),
+        Err(r) => show::not_read(r, lists),
     }
     test_bytes::end_line();
 }
 
-// Prints a list that was read, whether writing it gives the bytes read, and for each lent list whether its entries past the count were kept.
-fn write_back(
-    list: ListHeader,
-    bytes: &[u8],
-    releases: &[u16],
-    deadlines: &[u16],
-    volumes: &[u16],
-) {
-    show::list(list, releases, deadlines, volumes);
-    write_same(
+// Prints a list that was read, whether writing it gives the bytes read, and for each lent list whether its entries past the count were kept. It is
+// written to 454 bytes that hold 9; printed are the length and whether these are the bytes read and the next one is kept, or the refusal.
+fn write_back(list: ListHeader, bytes: &[u8], lists: Lists) {
+    let mut out = [9u8; 454];
+    show::list(list, lists);
+    match joblist::write(
         list.h,
         list.q,
-        bytes,
-        first_entries(releases, list.count),
-        first_entries(deadlines, list.count),
-        first_entries(volumes, list.count),
-    );
-    show::all_kept(list.count, releases, deadlines, volumes);
-}
-
-// Writes to 454 bytes that hold 9, and prints the length and whether these are the bytes read and the next one is kept, or the refusal.
-fn write_same(h: u16, q: u16, bytes: &[u8], releases: &[u16], deadlines: &[u16], volumes: &[u16]) {
-    let mut out = [9u8; 454];
-    match joblist::write(h, q, releases, deadlines, volumes, &mut out) {
-        ListWritten::Written(n) => show::same(n, bytes, &out),
-        ListWritten::Refused(r) => show::refused(r),
+        first(lists.releases, list.count),
+        first(lists.deadlines, list.count),
+        first(lists.volumes, list.count),
+        &mut out,
+    ) {
+        Ok(n) => show::same(n, bytes, &out),
+        Err(r) => show::refused(r),
     }
+    lists.show_kept(list.count);
 }
 
 // Reads into lists of these lengths that hold 7777; the bounds are for safety, since there are 65 entries.
@@ -78,8 +75,8 @@ fn read(bytes: &[u8]) {
 fn write(h: u16, q: u16, releases: &[u16], deadlines: &[u16], volumes: &[u16], out: &mut [u8]) {
     test_bytes::text(b"write");
     match joblist::write(h, q, releases, deadlines, volumes, out) {
-        ListWritten::Written(n) => show::written(n),
-        ListWritten::Refused(r) => show::refused(r),
+        Ok(n) => show::written(n),
+        Err(r) => show::refused(r),
     }
     show::bytes(out);
     test_bytes::end_line();
@@ -130,7 +127,7 @@ fn first_jobs() {
 fn long_with(at: usize, value: u8, n: usize) {
     let mut bytes = longest::LONGEST;
     put(&mut bytes, at, value);
-    read(first_bytes(&bytes, n));
+    read(first(&bytes, n));
 }
 
 // The same refusals at their last places.
@@ -171,14 +168,7 @@ fn write_example(h: u16, deadlines: usize, volumes: usize, out: &mut [u8]) {
     let rs = [0u16, 8, 0];
     let ds = [3u16, 10, 10];
     let ps = [1u16, 2, 5];
-    write(
-        h,
-        3,
-        &rs,
-        first_entries(&ds, deadlines),
-        first_entries(&ps, volumes),
-        out,
-    );
+    write(h, 3, &rs, first(&ds, deadlines), first(&ps, volumes), out);
 }
 
 // The writer's refusals, in their order, and buffers that are just long enough and one byte short.
@@ -199,14 +189,7 @@ fn write_few(n: usize, h: u16, q: u16, r: u16, d: u16, p: u16, out: &mut [u8]) {
     let rs = [r];
     let ds = [d];
     let ps = [p];
-    write(
-        h,
-        q,
-        first_entries(&rs, n),
-        first_entries(&ds, n),
-        first_entries(&ps, n),
-        out,
-    );
+    write(h, q, first(&rs, n), first(&ds, n), first(&ps, n), out);
 }
 
 // No job, one job, and 17 at its first place.
@@ -232,7 +215,7 @@ fn write_64(first: u16, last: u16, out: &mut [u8]) {
 // Writes a list of 65 releases and deadlines and so many volumes, all 1.
 fn write_65(h: u16, volumes: usize, out: &mut [u8]) {
     let many = [1u16; 65];
-    write(h, 0, &many, &many, first_entries(&many, volumes), out);
+    write(h, 0, &many, &many, first(&many, volumes), out);
 }
 
 // 64 and 65 jobs.
@@ -255,22 +238,12 @@ fn example_with(at: usize, value: u8) {
     read(&bytes);
 }
 
-// Reads it with one byte changed to each of ten values.
-fn damage(at: usize) {
-    let values = [0u8, 1, 2, 3, 4, 7, 8, 10, 64, 255];
-    let mut i = 0;
-    while i < 10 {
-        example_with(at, values[i]);
-        i += 1;
-    }
-}
-
-// The same for each byte.
+// Reads it with each byte changed to each of ten values.
 fn damage_each() {
-    let mut at = 0;
-    while at < 16 {
-        damage(at);
-        at += 1;
+    for at in 0..16 {
+        for value in [0, 1, 2, 3, 4, 7, 8, 10, 64, 255] {
+            example_with(at, value);
+        }
     }
 }
 

@@ -3,7 +3,7 @@ ghost use Rattle.std.specs.Prelude.{◌≡◌, ◌-◌, ◌/◌, ◌%◌, ◌^�
 
 use super::digits::digit;
 use super::tally;
-use test_bytes::{count, entry, first_bytes, number};
+use test_bytes::{Tally, first, number};
 
 // Byte i of the n behind the map byte, from 1 on: the digits of a number to the base 4, the highest first. 0 behind them.
 fn behind(code: usize, n: usize, i: usize) -> u8
@@ -16,8 +16,10 @@ fn behind(code: usize, n: usize, i: usize) -> u8
     }
 }
 
-// The digest with the answer to one list with n bytes behind the map byte; counts at 28 + n if it is read.
-fn one(sum: u64, map: u8, n: usize, code: usize, counts: &mut [u64]) -> u64 {
+// Notes the answer to one list with n bytes behind the map byte; counts at 28 + n if it is read.
+fn one(tally: &mut Tally<36>, map: u8, n: usize, code: usize)
+    requires { n ≤ 7 }
+{
     let list = [
         3,
         0,
@@ -33,64 +35,30 @@ fn one(sum: u64, map: u8, n: usize, code: usize, counts: &mut [u64]) -> u64 {
         behind(code, n, 6),
         behind(code, n, 7),
     ];
-    let noted = tally::note(sum, first_bytes(&list, n % 8 + 6), counts);
-    count(counts, tally::index(noted.number == 0, n % 8 + 28));
-    noted.sum
-}
-
-// So for the first `end` numbers.
-fn of_length(sum: u64, map: u8, n: usize, end: usize, counts: &mut [u64]) -> u64 {
-    let mut all = sum;
-    let mut code = 0;
-    while code < end {
-        all = one(all, map, n, code, counts);
-        code += 1;
-    }
-    all
-}
-
-// So for all numbers of 0, 1, .. 7 digits.
-fn of_all(map: u8, counts: &mut [u64]) -> u64 {
-    let mut all = 0;
-    let mut end = 1;
-    let mut n = 0;
-    while n < 8 {
-        all = of_length(all, map, n, end, counts);
-        end = end % 65536 * 4;
-        n += 1;
-    }
-    all
-}
-
-// Prints how many of the lists with 0, 1, .. 7 bytes behind the map byte were read.
-fn show(counts: &[u64]) {
-    let mut at = 28;
-    while at < 36 {
-        entry(counts, at);
-        at += 1;
+    if tally::note(tally, first(&list, n + 6)) {
+        tally.count(n + 28);
     }
 }
 
-// Prints a line: `map` and the map byte, how often each number came, what `show` prints, how many lists were written as the same bytes, and the
-// digest.
+// So for all numbers of 0, 1, .. 7 digits. Prints a line: `map` and the map byte, how often each number came, how many of the lists with 0, 1, .. 7
+// bytes behind the map byte were read, how many lists were written as the same bytes, and the digest.
 fn line(map: u8) {
-    let mut counts = [0u64; 36];
-    let sum = of_all(map, &mut counts);
+    let mut tally = Tally::new();
+    for n in 0..8 {
+        for code in 0..4usize.pow(n) {
+            one(&mut tally, map, n as usize, code);
+        }
+    }
     test_bytes::text(b"map");
-    number(map as u64);
-    tally::show(&counts);
-    show(&counts);
-    tally::end(&counts, sum);
+    number(u64::from(map));
+    tally::show(&tally);
+    tally.show(&[28, 29, 30, 31, 32, 33, 34, 35]);
+    tally::end(&tally);
 }
 
 // So for the eight maps, and three bytes that are none.
 pub fn each() {
-    let mut map = 0;
-    while map < 8 {
+    for map in [0, 1, 2, 3, 4, 5, 6, 7, 8, 128, 255] {
         line(map);
-        map += 1;
     }
-    line(8);
-    line(128);
-    line(255);
 }

@@ -7,10 +7,8 @@ pub fn digit(code: usize, base: usize, n: usize) -> usize
     ensures { result ≡ code / base ^ n % base }
 {
     let mut left = code;
-    let mut i = 0;
-    while i < n {
-        left = left / base;
-        i += 1;
+    for _ in 0..n {
+        left /= base;
     }
     left % base
 }

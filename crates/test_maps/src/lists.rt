@@ -3,8 +3,8 @@ ghost use Rattle.std.specs.Prelude.{◌≡◌, ◌-◌, ◌/◌, ◌%◌, ◌^�
 
 use super::digits::digit;
 use super::tally;
-use joblist::{ListRead, ListWritten};
-use test_bytes::{at, byte, count, entry, first_bytes, first_entries, mixed, number, put};
+use sched::Refusal;
+use test_bytes::{Tally, digest_from, first, number, put};
 
 // The job whose entry has a map (below 8): release 1, deadline 2 and volume 2 where their bits stand, else what is absent.
 fn release(map: usize) -> u16 {
@@ -26,188 +26,123 @@ fn map_of(code: usize, k: usize, j: usize) -> usize
     if j < k { digit(code, 8, k - 1 - j) } else { 0 }
 }
 
+// The maps of a list's first four jobs.
+fn maps_of(code: usize, k: usize) -> [usize; 4] {
+    [
+        map_of(code, k, 0),
+        map_of(code, k, 1),
+        map_of(code, k, 2),
+        map_of(code, k, 3),
+    ]
+}
+
 // Writes the first n jobs of a list of k jobs, and tells how many bytes these are.
 fn write(code: usize, k: usize, n: usize, out: &mut [u8]) -> usize {
-    let first = map_of(code, k, 0);
-    let second = map_of(code, k, 1);
-    let third = map_of(code, k, 2);
-    let fourth = map_of(code, k, 3);
-    let releases = [
-        release(first),
-        release(second),
-        release(third),
-        release(fourth),
-    ];
-    let deadlines = [
-        deadline(first),
-        deadline(second),
-        deadline(third),
-        deadline(fourth),
-    ];
-    let volumes = [volume(first), volume(second), volume(third), volume(fourth)];
-    match joblist::write(
+    let maps = maps_of(code, k);
+    let releases = maps.map(release);
+    let deadlines = maps.map(deadline);
+    let volumes = maps.map(volume);
+    joblist::write(
         3,
         513,
-        first_entries(&releases, n),
-        first_entries(&deadlines, n),
-        first_entries(&volumes, n),
+        first(&releases, n),
+        first(&deadlines, n),
+        first(&volumes, n),
         out,
-    ) {
-        ListWritten::Written(size) => size,
-        ListWritten::Refused(_) => 0,
-    }
+    )
+    .unwrap_or(0)
 }
 
-// Whether the first k jobs that were read are those of the list.
-fn same_jobs(code: usize, k: usize, releases: &[u16], deadlines: &[u16], volumes: &[u16]) -> bool {
-    let mut j = 0;
-    while j < k {
-        let map = map_of(code, k, j);
-        if at(releases, j) != release(map)
-            || at(deadlines, j) != deadline(map)
-            || at(volumes, j) != volume(map)
-        {
-            return false;
-        }
-        j += 1;
-    }
-    true
-}
-
-// Whether the bytes are read to the list.
+// Whether the bytes are read to the list, of at most four jobs.
 fn is_back(code: usize, k: usize, bytes: &[u8]) -> bool {
-    let mut first = [0u16; 64];
-    let mut second = [0u16; 64];
-    let mut third = [0u16; 64];
-    match joblist::read(bytes, &mut first, &mut second, &mut third) {
-        ListRead::Read(list) => {
-            list.h == 3
-                && list.q == 513
-                && list.count == k
-                && same_jobs(code, k, &first, &second, &third)
+    let maps = maps_of(code, k);
+    match tally::read(bytes) {
+        Ok(list) => {
+            list.header.h == 3
+                && list.header.q == 513
+                && list.header.count == k
+                && first(&list.releases, k) == first(&maps.map(release), k)
+                && first(&list.deadlines, k) == first(&maps.map(deadline), k)
+                && first(&list.volumes, k) == first(&maps.map(volume), k)
         }
-        ListRead::Refused(_) => false,
+        Err(_) => false,
     }
 }
 
-// Reads the first n bytes; counts at 1 if they are refused with 11 at n.
-fn cut(bytes: &[u8], n: usize, counts: &mut [u64]) {
-    let mut other = [0u64; 28];
-    let noted = tally::note(0, first_bytes(bytes, n), &mut other);
-    count(
-        counts,
-        tally::index(noted.number == 11 && noted.place == n, 1),
-    );
+// Whether the first n bytes are refused with 11 at n.
+fn is_cut(bytes: &[u8], n: usize) -> bool {
+    matches!(tally::read(first(bytes, n)), Err(Refusal::Truncated(at)) if at == n)
 }
 
-// So for each n below the number of bytes.
-fn cuts(bytes: &[u8], counts: &mut [u64]) {
-    let mut n = 0;
-    while n < bytes.len() {
-        cut(bytes, n, counts);
-        n += 1;
+// Whether n bytes and the one behind them are refused with 16 at n.
+fn is_longer(bytes: &[u8], n: usize) -> bool {
+    matches!(tally::read(first(bytes, n % 65536 + 1)), Err(Refusal::LeftOver(at)) if at == n)
+}
+
+// How many bytes lists have, how many are read back, how many of their parts (`is_cut`) and of the longer inputs (`is_longer`) are refused as they
+// should be, and the digest of all bytes.
+#[derive(Default, Drop)]
+struct Found {
+    bytes: u64,
+    back: u64,
+    cut: u64,
+    longer: u64,
+    sum: u64,
+}
+
+impl Found {
+    // The same with one list of k jobs.
+    fn add(&mut self, code: usize, k: usize) {
+        let mut out = [0u8; 64];
+        let n = write(code, k, k, &mut out);
+        let bytes = first(&out, n);
+        let cut = (0..bytes.len()).filter(|&n| is_cut(bytes, n)).count();
+        self.bytes = self.bytes.wrapping_add(bytes.len() as u64);
+        self.back = self.back.wrapping_add(is_back(code, k, bytes) as u64);
+        self.cut = self.cut.wrapping_add(cut as u64);
+        self.longer = self.longer.wrapping_add(is_longer(&out, n) as u64);
+        self.sum = digest_from(self.sum, bytes);
     }
 }
 
-// Reads n bytes and the one behind them; counts at 2 if they are refused with 16 at n.
-fn more(bytes: &[u8], n: usize, counts: &mut [u64]) {
-    let mut other = [0u64; 28];
-    let noted = tally::note(0, first_bytes(bytes, n % 65536 + 1), &mut other);
-    count(
-        counts,
-        tally::index(noted.number == 16 && noted.place == n, 2),
-    );
-}
-
-// The digest with the bytes; counts each at 3.
-fn digest(sum: u64, bytes: &[u8], counts: &mut [u64]) -> u64 {
-    let mut all = sum;
-    let mut i = 0;
-    while i < bytes.len() {
-        all = mixed(all, byte(bytes, i) as u64);
-        count(counts, 3);
-        i += 1;
-    }
-    all
-}
-
-// The digest with the bytes of a list. Counts at 0 if they are read back, and as `cuts`, `more` and `digest` do.
-fn one(sum: u64, code: usize, k: usize, counts: &mut [u64]) -> u64 {
-    let mut out = [0u8; 64];
-    let n = write(code, k, k, &mut out);
-    let bytes = first_bytes(&out, n);
-    count(counts, tally::index(is_back(code, k, bytes), 0));
-    cuts(bytes, counts);
-    more(&out, n, counts);
-    digest(sum, bytes, counts)
-}
-
-// So for the first `end` lists of k jobs.
-fn all(k: usize, end: usize, counts: &mut [u64]) -> u64 {
-    let mut sum = 0;
-    let mut code = 0;
-    while code < end {
-        sum = one(sum, code, k, counts);
-        code += 1;
-    }
-    sum
-}
-
-// Prints a line: `jobs` and k, how many lists of k jobs there are, how many bytes they have, how many are read back, how many of the parts that `cuts`
-// reads and of the inputs that `more` reads are refused so, and the digest.
+// Prints a line: `jobs` and k, how many lists of k jobs there are, and what was found of them.
 fn line(k: usize, end: usize) {
-    let mut counts = [0u64; 4];
-    let sum = all(k, end, &mut counts);
+    let mut found = Found::default();
+    for code in 0..end {
+        found.add(code, k);
+    }
     test_bytes::text(b"jobs");
     number(k as u64);
     number(end as u64);
-    entry(&counts, 3);
-    entry(&counts, 0);
-    entry(&counts, 1);
-    entry(&counts, 2);
-    number(sum);
+    number(found.bytes);
+    number(found.back);
+    number(found.cut);
+    number(found.longer);
+    number(found.sum);
     test_bytes::end_line();
 }
 
-// The digest with the answer to a list of three jobs whose job j has another map.
-fn exchanged(sum: u64, code: usize, j: usize, map: usize, counts: &mut [u64]) -> u64 {
+// Notes the answer to a list of three jobs whose job j has another map.
+fn exchanged(tally: &mut Tally<28>, code: usize, j: usize, map: u8) {
     let mut out = [0u8; 64];
     let at = write(code, 3, j, &mut out);
     let n = write(code, 3, 3, &mut out);
-    put(&mut out, at, (map % 256) as u8);
-    tally::note(sum, first_bytes(&out, n), counts).sum
+    put(&mut out, at, map);
+    tally::note(tally, first(&out, n));
 }
 
-// So for each map from 0 to 8.
-fn each_map(sum: u64, code: usize, j: usize, counts: &mut [u64]) -> u64 {
-    let mut all = sum;
-    let mut map = 0;
-    while map < 9 {
-        all = exchanged(all, code, j, map, counts);
-        map += 1;
-    }
-    all
-}
-
-// So for all lists of three jobs.
-fn each_list(j: usize, counts: &mut [u64]) -> u64 {
-    let mut all = 0;
-    let mut code = 0;
-    while code < 512 {
-        all = each_map(all, code, j, counts);
-        code += 1;
-    }
-    all
-}
-
-// Prints a line: `changed` and j, how often each number came, and the digest.
+// So for all lists of three jobs, and each map from 0 to 8. Prints a line: `changed` and j, how often each number came, and the digest.
 fn changed(j: usize) {
-    let mut counts = [0u64; 28];
-    let sum = each_list(j, &mut counts);
+    let mut tally = Tally::new();
+    for code in 0..512 {
+        for map in 0..9 {
+            exchanged(&mut tally, code, j, map);
+        }
+    }
     test_bytes::text(b"changed");
     number(j as u64);
-    tally::show(&counts);
-    number(sum);
+    tally::show(&tally);
+    number(tally.sum);
     test_bytes::end_line();
 }
 
@@ -218,7 +153,7 @@ pub fn each() {
     line(2, 64);
     line(3, 512);
     line(4, 4096);
-    changed(0);
-    changed(1);
-    changed(2);
+    for j in 0..3 {
+        changed(j);
+    }
 }

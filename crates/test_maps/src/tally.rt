@@ -1,96 +1,96 @@
 // The reader's answers to many inputs: how often each number came, and a digest of all.
-use joblist::{ListHeader, ListRead, ListWritten};
-use test_bytes::{at, count, entry, first_bytes, first_entries, mixed, number};
+use joblist::ListHeader;
+use sched::Refusal;
+use test_bytes::{Tally, first};
 
-// Number and place of an answer, both 0 if the list was read, and the digest with the answer.
+// A list as the reader gives it: what stands before the jobs, and three lists of 64 entries, the first of which hold the jobs.
 #[derive(Drop)]
-pub struct Noted {
-    pub number: usize,
-    pub place: usize,
-    pub sum: u64,
+pub struct List {
+    pub header: ListHeader,
+    pub releases: [u16; 64],
+    pub deadlines: [u16; 64],
+    pub volumes: [u16; 64],
 }
 
-// Whether the list is written as just these bytes, with 64 bytes lent.
-fn is_written(
-    h: u16,
-    q: u16,
-    releases: &[u16],
-    deadlines: &[u16],
-    volumes: &[u16],
-    bytes: &[u8],
-) -> bool {
-    let mut out = [9u8; 64];
-    match joblist::write(h, q, releases, deadlines, volumes, &mut out) {
-        ListWritten::Written(n) => check::same(bytes, first_bytes(&out, n)),
-        ListWritten::Refused(_) => false,
-    }
+// Reads the bytes.
+pub fn read(bytes: &[u8]) -> Result<List, Refusal> {
+    let mut releases = [0u16; 64];
+    let mut deadlines = [0u16; 64];
+    let mut volumes = [0u16; 64];
+    let header = joblist::read(bytes, &mut releases, &mut deadlines, &mut volumes)?;
+    Ok(List {
+        header,
+        releases,
+        deadlines,
+        volumes,
+    })
 }
 
-// The digest with a list that was read: 0, H, q and the count, then release, deadline and volume of each job.
-fn read(sum: u64, list: ListHeader, releases: &[u16], deadlines: &[u16], volumes: &[u16]) -> u64 {
-    let front = mixed(mixed(sum, 0), list.h as u64);
-    let mut all = mixed(mixed(front, list.q as u64), list.count as u64);
-    let mut i = 0;
-    while i < list.count {
-        all = mixed(all, at(releases, i) as u64);
-        all = mixed(mixed(all, at(deadlines, i) as u64), at(volumes, i) as u64);
-        i += 1;
-    }
-    all
-}
-
-// The index where a thing is counted, if it is so; else one that no array of counts has.
-pub fn index(is_so: bool, at: usize) -> usize {
-    if is_so { at } else { 99 }
-}
-
-// Reads the bytes into three lists of 64 entries. Counts the number (below 27), and at 27 a list that is written as the same bytes.
-pub fn note(sum: u64, bytes: &[u8], counts: &mut [u64]) -> Noted {
-    let mut first = [0u16; 64];
-    let mut second = [0u16; 64];
-    let mut third = [0u16; 64];
-    match joblist::read(bytes, &mut first, &mut second, &mut third) {
-        ListRead::Read(list) => {
-            let releases = first_entries(&first, list.count);
-            let deadlines = first_entries(&second, list.count);
-            let volumes = first_entries(&third, list.count);
-            let same = is_written(list.h, list.q, releases, deadlines, volumes, bytes);
-            count(counts, 0);
-            count(counts, index(same, 27));
-            Noted {
-                number: 0,
-                place: 0,
-                sum: read(sum, list, releases, deadlines, volumes),
-            }
+impl List {
+    // Whether the list is written as just these bytes, with 64 bytes lent.
+    fn is_written(&self, bytes: &[u8]) -> bool {
+        let mut out = [9u8; 64];
+        let n = self.header.count;
+        match joblist::write(
+            self.header.h,
+            self.header.q,
+            first(&self.releases, n),
+            first(&self.deadlines, n),
+            first(&self.volumes, n),
+            &mut out,
+        ) {
+            Ok(size) => bytes == first(&out, size),
+            Err(_) => false,
         }
-        ListRead::Refused(r) => {
-            let number = (r.number() % 27) as usize;
-            count(counts, number);
-            Noted {
-                number,
-                place: r.place(),
-                sum: mixed(mixed(sum, number as u64), r.place() as u64),
+    }
+
+    // The list into the digest: 0, H, q and the count, then release, deadline and volume of each job.
+    fn mix<const N: usize>(&self, tally: &mut Tally<N>) {
+        let n = self.header.count;
+        tally.mix(0);
+        tally.mix(u64::from(self.header.h));
+        tally.mix(u64::from(self.header.q));
+        tally.mix(n as u64);
+        let jobs = first(&self.releases, n)
+            .iter()
+            .zip(first(&self.deadlines, n))
+            .zip(first(&self.volumes, n));
+        for ((&r, &d), &p) in jobs {
+            tally.mix(u64::from(r));
+            tally.mix(u64::from(d));
+            tally.mix(u64::from(p));
+        }
+    }
+}
+
+// Reads the bytes, and tells whether they are a list. Counts the number, 0 for a list, and at 27 a list that is written as the same bytes.
+pub fn note<const N: usize>(tally: &mut Tally<N>, bytes: &[u8]) -> bool {
+    match read(bytes) {
+        Ok(list) => {
+            tally.count(0);
+            if list.is_written(bytes) {
+                tally.count(27);
             }
+            list.mix(tally);
+            true
+        }
+        Err(r) => {
+            tally.count(r.number() as usize);
+            tally.mix(u64::from(r.number()));
+            tally.mix(r.place() as u64);
+            false
         }
     }
 }
 
 // Prints how often 0, 11 to 16, 25 and 26 came.
-pub fn show(counts: &[u64]) {
-    entry(counts, 0);
-    entry(counts, 11);
-    entry(counts, 12);
-    entry(counts, 13);
-    entry(counts, 14);
-    entry(counts, 15);
-    entry(counts, 16);
-    entry(counts, 25);
-    entry(counts, 26);
+pub fn show<const N: usize>(tally: &Tally<N>) {
+    tally.show(&[0, 11, 12, 13, 14, 15, 16, 25, 26]);
 }
 
 // Prints how many lists were written as the same bytes, and the digest; ends the line.
-pub fn end(counts: &[u64], sum: u64) {
-    entry(counts, 27);
-    number(sum);
+pub fn end<const N: usize>(tally: &Tally<N>) {
+    tally.show(&[27]);
+    test_bytes::number(tally.sum);
     test_bytes::end_line();
 }

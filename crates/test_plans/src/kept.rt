@@ -5,12 +5,5 @@ pub const MARK: u8 = 165;
 
 // Whether all bytes from a place on hold the mark; yes where there are none.
 pub fn kept(table: &[u8], from: usize) -> bool {
-    let mut i = from;
-    while i < table.len() {
-        if table[i] != MARK {
-            return false;
-        }
-        i += 1;
-    }
-    true
+    table.iter().skip(from).all(|byte| *byte == MARK)
 }

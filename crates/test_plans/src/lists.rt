@@ -1,13 +1,13 @@
 // The lists of the comparison, each made from a number.
-ghost use Rattle.std.specs.Prelude.{◌≡◌, ◌+◌, ◌*◌, ◌/◌, ◌%◌, ◌^◌, ◌<◌, min, max};
+ghost use Rattle.std.specs.Prelude.{◌≡◌, ◌*◌, ◌%◌, ◌^◌, ◌<◌};
 
-use test_bytes::next;
+use test_bytes::Chance;
 use test_exhaustive::{Small, digit};
 
 // The wake costs 0, 1, 2, 3 and 9, for i modulo 5.
 fn wake_cost(i: u32) -> u16 {
-    let c = (i % 5) as u16;
-    if c == 4 { 9 } else { c }
+    let costs = [0, 1, 2, 3, 9];
+    costs[(i % 5) as usize]
 }
 
 // A packed field in which only job j has a digit, the lowest of x; j is below 8. The rest by 2^32 changes nothing.
@@ -35,12 +35,10 @@ pub fn listed(n: u32, m: u32, code: u32, start: bool) -> Small
     let mut r = 0;
     let mut d = 0;
     let mut p = 0;
-    for j in 0..4 {
-        if j < n {
-            r |= placed(modulo(rest, m), j);
-            d |= placed(modulo(rest / m, m) + 1, j);
-            p |= placed(modulo(rest / m / m, m) + 1, j);
-        }
+    for j in 0..n.min(4) {
+        r |= placed(modulo(rest, m), j);
+        d |= placed(modulo(rest / m, m) + 1, j);
+        p |= placed(modulo(rest / m / m, m) + 1, j);
         rest = rest / m / m / m;
     }
     Small {
@@ -68,73 +66,28 @@ pub fn valid(l: Small) -> bool {
     valid_job(l, 0) && valid_job(l, 1) && valid_job(l, 2) && valid_job(l, 3)
 }
 
-// A number below m: the rest by m of bits 16 to 30 of the seed.
-fn below(seed: u64, m: u32) -> u32
-    requires { 0 < m }
-    ensures { (result ≡ seed / 65536 % 32768 % m) × (result < m) }
-{
-    modulo((seed / 65536 % 32768) as u32, m)
-}
-
-// Release and deadline.
-#[derive(Drop)]
-struct Span {
-    r: u32,
-    d: u32,
-}
-
-// The span from the lesser of two slots to the greater; they are below 8 for safety, so that the deadline fits.
-fn between(x: u32, y: u32) -> Span
-    requires { (x < 8) × (y < 8) }
-    ensures { (result.r ≡ min x y) × (result.d ≡ max x y + 1) }
-{
-    if x < y {
-        Span { r: x, d: y + 1 }
-    } else {
-        Span { r: y, d: x + 1 }
-    }
-}
-
-// A list, and the seed for the next one.
-#[derive(Drop)]
-pub struct Draw {
-    pub list: Small,
-    pub seed: u64,
-}
-
-// A list with this start that passes the list checks, of one to four jobs, five to eight slots and volumes of at most three. Equal seeds give
-// equal lists, but for the start.
-pub fn drawn(seed: u64, start: bool) -> Draw {
-    let h_seed = next(seed);
-    let q_seed = next(h_seed);
-    let n_seed = next(q_seed);
-    let h = below(h_seed, 4) + 5;
-    let n = below(n_seed, 4) + 1;
-    let mut at = n_seed;
+// A list with this start that passes the list checks, of one to four jobs, five to eight slots and volumes of at most three.
+pub fn drawn(chance: &mut Chance, start: bool) -> Small {
+    let h = 5 + chance.below(4);
+    let q = wake_cost(chance.below(5) as u32);
+    let n = 1 + chance.below(4) as u32;
     let mut r = 0;
     let mut d = 0;
     let mut p = 0;
-    for j in 0..4 {
-        if j < n {
-            let r_seed = next(at);
-            let d_seed = next(r_seed);
-            at = next(d_seed);
-            let span = between(below(r_seed, h), below(d_seed, h));
-            r |= placed(span.r, j);
-            d |= placed(span.d, j);
-            p |= placed(below(at, 3) + 1, j);
-        }
+    for j in 0..n {
+        let x = chance.below(h) as u32;
+        let y = chance.below(h) as u32;
+        r |= placed(x.min(y), j);
+        d |= placed(x.max(y) + 1, j);
+        p |= placed(1 + chance.below(3) as u32, j);
     }
-    Draw {
-        list: Small {
-            h,
-            q: wake_cost(below(q_seed, 5)),
-            start,
-            n,
-            r,
-            d,
-            p,
-        },
-        seed: at,
+    Small {
+        h: h as u32,
+        q,
+        start,
+        n,
+        r,
+        d,
+        p,
     }
 }

@@ -1,55 +1,37 @@
 // The comparison over all lists.
 ghost use Rattle.std.specs.Prelude.{◌<◌};
 
-use crate::compare::{Tally, compare, plus};
+use crate::compare::{Tally, compare};
 use crate::lists::{drawn, listed, valid};
-use test_bytes::begin;
-
-fn nothing() -> Tally {
-    Tally {
-        lists: 0,
-        overloaded: 0,
-        differing: 0,
-        energy: 0,
-        added: 0,
-        rival: 0,
-    }
-}
+use test_bytes::{Chance, begin, text};
 
 // The tally of the lists with this start that pass `valid`, have n jobs and a horizon of at most m, and are listed under a number below `end`.
 fn every(n: u32, m: u32, end: u32, start: bool) -> Tally
     requires { 0 < m }
 {
-    let mut tally = nothing();
-    let mut code = 0;
-    while code < end {
+    let mut tally = Tally::default();
+    for code in 0..end {
         let l = listed(n, m, code, start);
         if valid(l) {
-            tally = plus(tally, compare(l));
+            tally += compare(l);
         }
-        code += 1;
     }
     tally
 }
 
-// The tally of so many drawn lists with this start, the first from seed 1.
+// The tally of so many drawn lists with this start; equal numbers give equal lists from either start.
 fn some(count: u32, start: bool) -> Tally {
-    let mut tally = nothing();
-    let mut seed: u64 = 1;
-    let mut i = 0;
-    while i < count {
-        let next = drawn(seed, start);
-        let l = next.list;
-        seed = next.seed;
-        tally = plus(tally, compare(l));
-        i += 1;
+    let mut tally = Tally::default();
+    let mut chance = Chance { state: 1 };
+    for _ in 0..count {
+        tally += compare(drawn(&mut chance, start));
     }
     tally
 }
 
 // Prints the name and x in decimal.
 fn field(name: &[u8], x: u64) {
-    io::write_all(1, name);
+    text(name);
     io::print_decimal(1, x);
 }
 
@@ -61,7 +43,7 @@ fn show(t: Tally) {
     field(b" energy ", t.energy);
     field(b" added ", t.added);
     field(b" rival ", t.rival);
-    io::write_all(1, b"\n");
+    text(b"\n");
 }
 
 // Prints five lines: the tally of the lists with this start that pass `valid` with no, one and two jobs and at most eight slots, then with three jobs

@@ -4,7 +4,7 @@ use test_bytes::number;
 
 // Fills the table with 170 and reads the record into it; prints ` read`, the answer, and the digest of the table then.
 pub fn read(bytes: &[u8], table: &mut [u8]) {
-    test_bytes::fill(table, 170);
+    table.fill(170);
     test_bytes::text(b" read");
     show::read(record::read(bytes, table));
     number(test_bytes::digest(table));
@@ -33,6 +33,6 @@ pub fn tried(word: &[u8], bytes: &[u8], table: &mut [u8], short: usize) {
     read(bytes, table);
     read_within(bytes, table, short);
     run(bytes, 0);
-    run(bytes, 18446744073709551615);
+    run(bytes, usize::MAX);
     test_bytes::end_line();
 }

@@ -3,6 +3,7 @@
 // program, by another implementation.
 #![tactic(auto)]
 
+mod answer; // answer.rt: an answer as numbers
 mod show; // show.rt: answers as text
 mod cases; // cases.rt: the calls on one record, printed
 mod worked; // worked.rt: the three records of the documents

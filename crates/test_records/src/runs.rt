@@ -12,16 +12,16 @@ struct Counted {
 // The runs 0, 1, .. up to the first that is refused, or to 4,096.
 fn count_runs(bytes: &[u8]) -> Counted {
     let mut sum = 0;
-    let mut k = 0;
-    while k < 4096 {
-        let m = mix::run(sum, bytes, k);
-        if m.number != 0 {
-            return Counted { count: k, sum };
+    for k in 0..4096 {
+        let before = sum;
+        if mix::run(&mut sum, bytes, k) != 0 {
+            return Counted {
+                count: k,
+                sum: before,
+            };
         }
-        sum = m.sum;
-        k += 1;
     }
-    Counted { count: k, sum }
+    Counted { count: 4096, sum }
 }
 
 // Prints a line: `runs`, h, how many and their digest, and what `cases::run` prints of the next one.

@@ -2,25 +2,17 @@
 ghost use Rattle.std.specs.Prelude.{◌<◌};
 
 use super::{cases, runs, show, stretches};
-use record::RecordWritten;
-use test_bytes::number;
+use test_bytes::{first, number};
 
-// The length of a record that was written; 0 for a refusal.
-fn length(answer: RecordWritten) -> usize {
-    match answer {
-        RecordWritten::Written(size) => size.bytes,
-        RecordWritten::Refused(_) => 0,
-    }
-}
-
-// Writes the record of the first h slots to out, and prints a line: `record`, h, the answer, and the digest of the record. Gives its length.
+// Writes the record of the first h slots to out, and prints a line: `record`, h, the answer, and the digest of the record. Gives its length, 0 for a
+// refusal.
 fn write(h: u16, t: &[u8], out: &mut [u8]) -> usize {
     test_bytes::text(b"record");
-    number(h as u64);
+    number(u64::from(h));
     let answer = record::write(h, t, out);
     show::written(answer);
-    let n = length(answer);
-    number(test_bytes::digest(test_bytes::first_bytes(out, n)));
+    let n = answer.map_or(0, |size| size.bytes);
+    number(test_bytes::digest(first(out, n)));
     test_bytes::end_line();
     n
 }
@@ -33,8 +25,8 @@ fn read(h: usize, t: &[u8], bytes: &[u8], back: &mut [u8])
     test_bytes::text(b"table");
     number(h as u64);
     cases::read(bytes, back);
-    number(test_bytes::digest(test_bytes::first_bytes(t, h)));
-    number(test_bytes::digest(test_bytes::first_bytes(back, h)));
+    number(test_bytes::digest(first(t, h)));
+    number(test_bytes::digest(first(back, h)));
     cases::read_within(bytes, back, h - 1);
     test_bytes::end_line();
 }
@@ -44,53 +36,28 @@ fn horizon(h: u16, t: &[u8], out: &mut [u8], back: &mut [u8])
     requires { 0 < h }
 {
     let n = write(h, t, out);
-    read(h as usize, t, test_bytes::first_bytes(out, n), back);
-    runs::each(h as usize, test_bytes::first_bytes(out, n));
+    read(h as usize, t, first(out, n), back);
+    runs::each(h as usize, first(out, n));
 }
 
-// So for horizons around the end of a map byte.
-fn few_slots(t: &[u8], out: &mut [u8], back: &mut [u8]) {
-    horizon(1, t, out, back);
-    horizon(7, t, out, back);
-    horizon(8, t, out, back);
-    horizon(9, t, out, back);
-}
-
-// So for horizons around 64.
-fn many_slots(t: &[u8], out: &mut [u8], back: &mut [u8]) {
-    horizon(63, t, out, back);
-    horizon(64, t, out, back);
-    horizon(65, t, out, back);
-}
-
-// So for these, and for the greatest horizons.
+// So for horizons around the end of a map byte, around 64, and for the greatest ones.
 fn horizons(t: &[u8], out: &mut [u8], back: &mut [u8]) {
-    few_slots(t, out, back);
-    many_slots(t, out, back);
-    horizon(4095, t, out, back);
-    horizon(4096, t, out, back);
+    for h in [1, 7, 8, 9, 63, 64, 65, 4095, 4096] {
+        horizon(h, t, out, back);
+    }
 }
 
-// So for a table that is asleep (255) or awake (254) throughout.
-fn plain(byte: u8, t: &mut [u8], out: &mut [u8], back: &mut [u8]) {
-    test_bytes::fill(t, byte);
-    horizons(t, out, back);
-}
-
-// So for tables that are asleep, awake, both by turns, and awake by stretches.
-fn kinds(t: &mut [u8], out: &mut [u8], back: &mut [u8]) {
-    plain(255, t, out, back);
-    plain(254, t, out, back);
-    test_bytes::alternate(t);
-    horizons(t, out, back);
-    stretches::fill(t);
-    horizons(t, out, back);
-}
-
-// With room for the longest table and record.
+// So for tables that are asleep (255) throughout, awake (254), both by turns, and awake by stretches, with room for the longest table and record.
 pub fn each() {
     let mut t = [0u8; 4100];
     let mut out = [0u8; 4700];
     let mut back = [0u8; 4100];
-    kinds(&mut t, &mut out, &mut back);
+    for byte in [255, 254] {
+        t.fill(byte);
+        horizons(&t, &mut out, &mut back);
+    }
+    test_bytes::alternate(&mut t);
+    horizons(&t, &mut out, &mut back);
+    stretches::fill(&mut t);
+    horizons(&t, &mut out, &mut back);
 }

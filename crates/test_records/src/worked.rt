@@ -19,28 +19,24 @@ fn read(bytes: &[u8], table: &mut [u8]) {
     test_bytes::bytes(table);
 }
 
-// Prints two lines: `worked` and what `cases::run` prints of run k; `part` and the bytes of the run.
-fn run(bytes: &[u8], k: usize) {
-    test_bytes::text(b"worked");
-    cases::run(bytes, k);
-    test_bytes::end_line();
-    test_bytes::text(b"part");
-    test_bytes::bytes(record::run_bytes(bytes, k));
-}
+// The runs that are asked for: 0 to 3 and 2^64 - 1.
+pub const RUNS: [usize; 5] = [0, 1, 2, 3, usize::MAX];
 
-// The runs 0 to 3 and 2^64 - 1, printed so.
+// Prints two lines for each of these runs: `worked` and what `cases::run` prints of it; `part` and the bytes of the run.
 fn runs(bytes: &[u8]) {
-    run(bytes, 0);
-    run(bytes, 1);
-    run(bytes, 2);
-    run(bytes, 3);
-    run(bytes, 18446744073709551615);
+    for k in RUNS {
+        test_bytes::text(b"worked");
+        cases::run(bytes, k);
+        test_bytes::end_line();
+        test_bytes::text(b"part");
+        test_bytes::bytes(record::run_bytes(bytes, k));
+    }
 }
 
 // The first record, read into three bytes more than it needs, and its runs.
 pub fn paper() {
     let all = PAPER;
-    let bytes = test_bytes::first_bytes(&all, 12);
+    let bytes = test_bytes::first(&all, 12);
     let mut table = [0u8; 13];
     read(bytes, &mut table);
     runs(bytes);
@@ -48,16 +44,15 @@ pub fn paper() {
 
 // The same of the second.
 pub fn card() {
-    let bytes = CARD;
     let mut table = [0u8; 13];
-    read(&bytes, &mut table);
-    runs(&bytes);
+    read(&CARD, &mut table);
+    runs(&CARD);
 }
 
 // The same of the third.
 pub fn page() {
     let all = PAGE;
-    let bytes = test_bytes::first_bytes(&all, 9);
+    let bytes = test_bytes::first(&all, 9);
     let mut table = [0u8; 15];
     read(bytes, &mut table);
     runs(bytes);

@@ -1,8 +1,9 @@
 // What many tables are after the rule.
-use test_bytes::{byte, digest_from, number};
+use sched::{ASLEEP, IDLE};
+use test_bytes::{digest_from, number};
 
 // How many slots are idle and asleep, the energies added up, and a digest of all bytes. The sums are modulo 2^64, which none here comes near.
-#[derive(Clone, Copy)]
+#[derive(Default, Drop)]
 pub struct Tally {
     pub idle: u64,
     pub asleep: u64,
@@ -10,57 +11,35 @@ pub struct Tally {
     pub sum: u64,
 }
 
-// The tally of no table.
-pub fn nothing() -> Tally {
-    Tally {
-        idle: 0,
-        asleep: 0,
-        energy: 0,
-        sum: 0,
-    }
-}
-
-// 1 where the two bytes are the same, else 0.
-fn same(x: u8, y: u8) -> u64 {
-    if x == y { 1 } else { 0 }
-}
-
-// How many slots from `from` up to, but without, `end` hold the byte.
-pub fn holding(table: &[u8], from: usize, end: usize, held: u8) -> u64 {
-    let mut n: u64 = 0;
-    let mut t = from;
-    while t < end {
-        n = std::num::wrapping_add_u64(n, same(byte(table, t), held));
-        t += 1;
-    }
-    n
+// How many slots hold the byte.
+pub fn holding(table: &[u8], held: u8) -> u64 {
+    table.iter().filter(|&&byte| byte == held).count() as u64
 }
 
 // The energy of a table of at most 4,096 slots; 0 of a longer one, and there is none here.
 fn energy(q: u16, start: bool, table: &[u8]) -> u64 {
     if table.len() <= 4096 {
-        return sched::cost_of(q, start, table).energy as u64;
+        return u64::from(sched::cost_of(q, start, table).energy);
     }
     0
 }
 
-// Puts the table under the rule, and tells the tally with this table.
-pub fn settle(last: Tally, q: u16, start: bool, table: &mut [u8]) -> Tally {
-    step5_sleep::sleep(q, start, table);
-    let end = table.len();
-    Tally {
-        idle: std::num::wrapping_add_u64(last.idle, holding(table, 0, end, 254)),
-        asleep: std::num::wrapping_add_u64(last.asleep, holding(table, 0, end, 255)),
-        energy: std::num::wrapping_add_u64(last.energy, energy(q, start, table)),
-        sum: digest_from(last.sum, table),
+impl Tally {
+    // Puts the table under the rule, and takes it into the tally.
+    pub fn settle(&mut self, q: u16, start: bool, table: &mut [u8]) {
+        step5_sleep::sleep(q, start, table);
+        self.idle = self.idle.wrapping_add(holding(table, IDLE));
+        self.asleep = self.asleep.wrapping_add(holding(table, ASLEEP));
+        self.energy = self.energy.wrapping_add(energy(q, start, table));
+        self.sum = digest_from(self.sum, table);
     }
-}
 
-// Prints the tally, and ends the line.
-pub fn show(t: Tally) {
-    number(t.idle);
-    number(t.asleep);
-    number(t.energy);
-    number(t.sum);
-    test_bytes::end_line();
+    // Prints the tally, and ends the line.
+    pub fn show(&self) {
+        number(self.idle);
+        number(self.asleep);
+        number(self.energy);
+        number(self.sum);
+        test_bytes::end_line();
+    }
 }

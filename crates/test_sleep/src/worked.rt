@@ -1,83 +1,57 @@
 // Single tables, each printed with its wake cost as the rule leaves it.
 use test_bytes::number;
 
-// Prints a line named `q`: the wake cost, and the bytes of the table after the rule.
-fn show(q: u16, start: bool, table: &mut [u8]) {
-    step5_sleep::sleep(q, start, table);
-    test_bytes::begin(start, b"q");
-    number(q as u64);
-    test_bytes::bytes(table);
-}
-
 // The third worked case of 01: a stretch of two slots.
-fn third(q: u16, start: bool) {
-    let mut table = [0u8, 2, 2, 2, 2, 2, 255, 255, 1, 1];
-    show(q, start, &mut table);
-}
+const THIRD: [u8; 10] = [0, 2, 2, 2, 2, 2, 255, 255, 1, 1];
 
 // One job, and an idle slot behind it.
-fn idle_at_end(q: u16, start: bool) {
-    let mut table = [255u8, 255, 0, 0, 0, 254, 255, 255];
-    show(q, start, &mut table);
-}
+const IDLE_AT_END: [u8; 8] = [255, 255, 0, 0, 0, 254, 255, 255];
 
 // Two idle slots between two jobs, and sleep on both sides.
-fn idle_between(q: u16, start: bool) {
-    let mut table = [255u8, 255, 0, 0, 254, 254, 1, 1, 255, 255, 255, 255];
-    show(q, start, &mut table);
-}
+const IDLE_BETWEEN: [u8; 12] = [255, 255, 0, 0, 254, 254, 1, 1, 255, 255, 255, 255];
 
 // Every other slot works.
-fn by_turns(q: u16, start: bool) {
-    let mut table = [0u8, 254, 1, 254, 2];
-    show(q, start, &mut table);
-}
+const BY_TURNS: [u8; 5] = [0, 254, 1, 254, 2];
 
 // No slot at all.
-fn empty(q: u16, start: bool) {
-    let mut table = [0u8; 0];
-    show(q, start, &mut table);
-}
+const EMPTY: [u8; 0] = [];
 
 // No slot works.
-fn no_work(q: u16, start: bool) {
-    let mut table = [254u8, 254, 254];
-    show(q, start, &mut table);
-}
+const NO_WORK: [u8; 3] = [254, 254, 254];
 
 // Every kind of byte that does not work, between the last job of a full list and the first one.
-fn all_kinds(q: u16, start: bool) {
-    let mut table = [63u8, 64, 128, 200, 253, 254, 255, 0];
-    show(q, start, &mut table);
-}
+const ALL_KINDS: [u8; 8] = [63, 64, 128, 200, 253, 254, 255, 0];
 
 // Stretches of one and of two slots between jobs, and idle slots outside.
-fn one_and_two(q: u16, start: bool) {
-    let mut table = [254u8, 0, 254, 1, 254, 255, 2, 254];
-    show(q, start, &mut table);
-}
+const ONE_AND_TWO: [u8; 8] = [254, 0, 254, 1, 254, 255, 2, 254];
 
 // Jobs side by side, then a stretch of three slots.
-fn side_by_side(q: u16, start: bool) {
-    let mut table = [0u8, 1, 2, 254, 255, 64, 63];
-    show(q, start, &mut table);
+const SIDE_BY_SIDE: [u8; 7] = [0, 1, 2, 254, 255, 64, 63];
+
+// Prints a line named `q`: the wake cost, and the bytes of the table after the rule.
+fn show<const N: usize>(q: u16, start: bool, table: [u8; N]) {
+    let mut settled = table;
+    step5_sleep::sleep(q, start, &mut settled);
+    test_bytes::begin(start, b"q");
+    number(u64::from(q));
+    test_bytes::bytes(&settled);
 }
 
 // Each with a wake cost, or with several around the length of its stretch.
 pub fn each(start: bool) {
-    third(3, start);
-    third(2, start);
-    third(1, start);
-    third(0, start);
-    idle_at_end(2, start);
-    idle_between(1, start);
-    idle_between(3, start);
-    by_turns(1, start);
-    empty(65535, start);
-    no_work(9, start);
-    all_kinds(6, start);
-    all_kinds(7, start);
-    one_and_two(2, start);
-    one_and_two(65535, start);
-    side_by_side(0, start);
+    show(3, start, THIRD);
+    show(2, start, THIRD);
+    show(1, start, THIRD);
+    show(0, start, THIRD);
+    show(2, start, IDLE_AT_END);
+    show(1, start, IDLE_BETWEEN);
+    show(3, start, IDLE_BETWEEN);
+    show(1, start, BY_TURNS);
+    show(65535, start, EMPTY);
+    show(9, start, NO_WORK);
+    show(6, start, ALL_KINDS);
+    show(7, start, ALL_KINDS);
+    show(2, start, ONE_AND_TWO);
+    show(65535, start, ONE_AND_TWO);
+    show(0, start, SIDE_BY_SIDE);
 }

@@ -6,14 +6,8 @@ use test_faults::Job;
 fn stray(t: &mut [u8], d: u16, p: u16) {
     test_bytes::fill(t, 255);
     let end = d as usize;
-    let mut i = 0;
-    while i <= end {
-        if end <= i + p as usize {
-            test_bytes::put(t, i, 0);
-            i += 1;
-        } else {
-            i += 1;
-        }
+    for i in end.saturating_sub(p as usize)..=end {
+        test_bytes::put(t, i, 0);
     }
 }
 

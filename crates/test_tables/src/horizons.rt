@@ -6,31 +6,17 @@ use test_faults::Job;
 // than the record needs, with just enough and with one less.
 fn horizon(h: u16, awake: usize, t: &[u8], out: &mut [u8]) {
     judging::equal(h, 65535, 0, Job { r: 0, d: 1, p: 1 }, t, 4100);
-    let bytes = 2 + (h as usize + 7) / 8 + awake % 4097;
+    let bytes = 2 + (h as usize).div_ceil(8) + awake % 4097;
     recording::within(h, t, 4100, out, bytes + 2);
     recording::within(h, t, 4100, out, bytes);
     recording::within(h, t, 4100, out, bytes - 1);
 }
 
-// The same for a table that is awake throughout, or asleep.
-fn plain_horizon(h: u16, all: bool, t: &[u8], out: &mut [u8]) {
-    if all {
-        horizon(h, h as usize, t, out);
-    } else {
-        horizon(h, 0, t, out);
-    }
-}
-
-// The same for each of eight horizons.
+// The same for each of eight horizons, for a table that is awake throughout, or asleep.
 fn each(all: bool, t: &[u8], out: &mut [u8]) {
-    plain_horizon(1, all, t, out);
-    plain_horizon(7, all, t, out);
-    plain_horizon(8, all, t, out);
-    plain_horizon(9, all, t, out);
-    plain_horizon(63, all, t, out);
-    plain_horizon(64, all, t, out);
-    plain_horizon(65, all, t, out);
-    plain_horizon(4096, all, t, out);
+    for h in [1, 7, 8, 9, 63, 64, 65, 4096] {
+        horizon(h, if all { h as usize } else { 0 }, t, out);
+    }
 }
 
 // Tables that are asleep, awake and both by turns, printed so.

@@ -1,5 +1,6 @@
 // The judge on its refusals, each at its first and last place.
 use super::{show, tables};
+use test_bytes::first;
 use test_faults::Job;
 
 // Judges the first len bytes of t against n equal jobs (at most 65), of which job k is another, and prints the answer.
@@ -11,10 +12,10 @@ pub fn jobs(h: u16, q: u16, n: usize, job: Job, k: usize, other: Job, t: &[u8], 
         h,
         q,
         false,
-        test_bytes::first_entries(&rs, n),
-        test_bytes::first_entries(&ds, n),
-        test_bytes::first_entries(&ps, n),
-        test_bytes::first_bytes(t, len),
+        first(&rs, n),
+        first(&ds, n),
+        first(&ps, n),
+        first(t, len),
     ));
 }
 
@@ -28,15 +29,7 @@ fn lengths(a: usize, b: usize, c: usize, t: &[u8]) {
     let rs = [0u16; 65];
     let ds = [10u16; 65];
     let ps = [1u16; 65];
-    show::judged(judge::judge(
-        10,
-        1,
-        false,
-        test_bytes::first_entries(&rs, a),
-        test_bytes::first_entries(&ds, b),
-        test_bytes::first_entries(&ps, c),
-        t,
-    ));
+    show::judged(judge::judge(10, 1, false, first(&rs, a), first(&ds, b), first(&ps, c), t));
 }
 
 // Puts one byte more into t, and judges its first 4,096 bytes, all of them slots, against n equal jobs with wake cost 1.
@@ -58,24 +51,19 @@ pub fn list_faults(t: &[u8]) {
     lengths(64, 64, 64, t);
 }
 
-// The k-th faulty job at the first, a middle and the last place of 64 jobs, with no table, so that 17 would come next.
-fn faulty(k: usize, t: &[u8]) {
+// A faulty job at the first, a middle and the last place of 64 jobs, with no table, so that 17 would come next.
+fn faulty(other: Job, t: &[u8]) {
     let job = Job { r: 0, d: 1, p: 1 };
-    let other = test_faults::nth(k);
-    jobs(4096, 1, 64, job, 0, other, t, 0);
-    jobs(4096, 1, 64, job, 31, other, t, 0);
-    jobs(4096, 1, 64, job, 63, other, t, 0);
+    for at in [0, 31, 63] {
+        jobs(4096, 1, 64, job, at, other, t, 0);
+    }
 }
 
 // All seven, and lists whose other jobs are faulty, too: the lowest is told.
 fn all_faulty(t: &[u8]) {
-    faulty(0, t);
-    faulty(1, t);
-    faulty(2, t);
-    faulty(3, t);
-    faulty(4, t);
-    faulty(5, t);
-    faulty(6, t);
+    for k in 0..7 {
+        faulty(test_faults::nth(k), t);
+    }
     jobs(
         4096,
         1,

@@ -23,7 +23,7 @@ fn show_plan(
 ) {
     show::judged(judge::judge(h, q, false, rs, ds, ps, t));
     recording::within(h, t, t.len(), out, room);
-    test_bytes::bytes(test_bytes::first_bytes(out, room));
+    test_bytes::bytes(test_bytes::first(out, room));
 }
 
 // The list of the third plan that 01 works by hand, with a table for it.
@@ -49,19 +49,10 @@ fn page_case(out: &mut [u8]) {
     show_plan(12, 300, &rs, &ds, &ps, &t, out, 11);
 }
 
-// Room for the longest table and four bytes behind it, asleep throughout.
-fn table() -> [u8; 4100] {
-    [255u8; 4100]
-}
-
-// Room for more than the longest record.
-fn output() -> [u8; 4700] {
-    [0u8; 4700]
-}
-
 fn main() {
-    let mut t = table();
-    let mut out = output();
+    // Room for the longest table and four bytes behind it, asleep throughout, and for more than the longest record.
+    let mut t = [255u8; 4100];
+    let mut out = [0u8; 4700];
     worked_cases(&mut out);
     page_case(&mut out);
     judging::list_faults(&t);

@@ -5,7 +5,7 @@ use super::show;
 // what out then holds.
 fn whole(h: u16, t: &[u8], len: usize, out: &mut [u8]) {
     test_bytes::fill(out, 170);
-    show::written(record::write(h, test_bytes::first_bytes(t, len), out));
+    show::written(record::write(h, test_bytes::first(t, len), out));
     test_bytes::number(test_bytes::digest(out));
     test_bytes::end_line();
 }

@@ -3,10 +3,8 @@ ghost use Rattle.std.specs.Prelude.{◌≡◌, set, replicate};
 
 // Lets slot i name job i for each i below n, as far as the table goes; n is at most 256. Later slots keep their bytes.
 pub fn count_up(t: &mut [u8], n: usize) {
-    let mut i = 0;
-    while i < n {
+    for i in 0..n {
         test_bytes::put(t, i, (i % 256) as u8);
-        i += 1;
     }
 }
 
@@ -15,8 +13,6 @@ pub fn field(all: u16, k: usize, other: u16) -> [u16; 65]
     ensures { result ≡ set (replicate 65 all) k other }
 {
     let mut list = [all; 65];
-    if k < 65 {
-        list[k] = other;
-    }
+    test_bytes::put(&mut list, k, other);
     list
 }

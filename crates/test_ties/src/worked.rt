@@ -1,16 +1,17 @@
 // Single lists, each printed with its outcome and its table.
 use sched::Outcome;
-use test_bytes::number;
+use test_bytes::{List, bytes, end_line, number, text};
 
 // Prints 0 and the figures of a plan, or number and values of what else was answered.
+// kept: test_plans has its own, for a printing function has nothing to promise that a shared crate could state.
 fn outcome_shown(outcome: Outcome) {
     match outcome {
         Outcome::Planned(f) => {
             number(0);
-            number(f.energy as u64);
-            number(f.awake as u64);
-            number(f.runs as u64);
-            number(f.added as u64);
+            number(u64::from(f.energy));
+            number(u64::from(f.awake));
+            number(u64::from(f.runs));
+            number(u64::from(f.added));
         }
         Outcome::Overloaded(i) => {
             number(18);
@@ -18,168 +19,164 @@ fn outcome_shown(outcome: Outcome) {
             number(i.b as u64);
         }
         Outcome::Refused(r) => {
-            number(r.number() as u64);
+            number(u64::from(r.number()));
             number(r.place() as u64);
         }
     }
 }
 
-// Prints two lines: `list` with its number, horizon, wake cost and outcome; and the bytes of the table, which is lent.
-fn show(k: u64, q: u16, releases: &[u16], deadlines: &[u16], volumes: &[u16], table: &mut [u8]) {
-    let h = (table.len() % 4097) as u16;
-    let outcome = planner::plan(h, q, false, releases, deadlines, volumes, table);
-    test_bytes::text(b"list");
+// Prints two lines: `list` with its number, horizon, wake cost and outcome; and the bytes of the table, which has at most 18 slots.
+fn show(k: u64, q: u16, list: List<'_>) {
+    let mut store = [165u8; 18];
+    let size = usize::from(list.h).min(18);
+    let table = &mut store[..size];
+    let outcome = planner::plan(
+        list.h,
+        q,
+        false,
+        list.releases,
+        list.deadlines,
+        list.volumes,
+        table,
+    );
+    text(b"list");
     number(k);
-    number(h as u64);
-    number(q as u64);
+    number(u64::from(list.h));
+    number(u64::from(q));
     outcome_shown(outcome);
-    test_bytes::end_line();
-    test_bytes::bytes(table);
+    end_line();
+    bytes(table);
 }
 
 // The list of the card.
-fn card(k: u64) {
-    let mut table = [165u8; 4];
-    let releases = [1u16, 0];
-    let deadlines = [4u16, 4];
-    let volumes = [2u16, 2];
-    show(k, 1, &releases, &deadlines, &volumes, &mut table);
-}
+pub const CARD: List = List {
+    h: 4,
+    releases: &[1, 0],
+    deadlines: &[4, 4],
+    volumes: &[2, 2],
+};
 
 // The same jobs the other way round.
-fn card_turned(k: u64) {
-    let mut table = [165u8; 4];
-    let releases = [0u16, 1];
-    let deadlines = [4u16, 4];
-    let volumes = [2u16, 2];
-    show(k, 1, &releases, &deadlines, &volumes, &mut table);
-}
+const CARD_TURNED: List = List {
+    h: 4,
+    releases: &[0, 1],
+    deadlines: &[4, 4],
+    volumes: &[2, 2],
+};
 
 // With q 0 job 1 goes on behind slot 5, which sleeps.
-fn asleep(k: u64, q: u16) {
-    let mut table = [165u8; 12];
-    let releases = [5u16, 0, 0, 3, 8];
-    let deadlines = [12u16, 12, 1, 6, 10];
-    let volumes = [1u16, 4, 1, 1, 1];
-    show(k, q, &releases, &deadlines, &volumes, &mut table);
-}
+pub const OVER_SLEEP: List = List {
+    h: 12,
+    releases: &[5, 0, 0, 3, 8],
+    deadlines: &[12, 12, 1, 6, 10],
+    volumes: &[1, 4, 1, 1, 1],
+};
 
 // One change of job more than if the lowest number always ran.
-fn one_more(k: u64) {
-    let mut table = [165u8; 16];
-    let releases = [0u16, 4, 10, 10, 8, 7, 1];
-    let deadlines = [15u16, 15, 15, 14, 15, 14, 15];
-    let volumes = [2u16, 3, 1, 2, 1, 2, 3];
-    show(k, 2, &releases, &deadlines, &volumes, &mut table);
-}
+const ONE_MORE: List = List {
+    h: 16,
+    releases: &[0, 4, 10, 10, 8, 7, 1],
+    deadlines: &[15, 15, 15, 14, 15, 14, 15],
+    volumes: &[2, 3, 1, 2, 1, 2, 3],
+};
 
 // So is this.
-fn one_more_short(k: u64) {
-    let mut table = [165u8; 8];
-    let releases = [1u16, 3, 3, 0, 6];
-    let deadlines = [8u16, 8, 4, 8, 7];
-    let volumes = [2u16, 2, 1, 2, 1];
-    show(k, 1, &releases, &deadlines, &volumes, &mut table);
-}
+pub const MORE_CHANGES: List = List {
+    h: 8,
+    releases: &[1, 3, 3, 0, 6],
+    deadlines: &[8, 8, 4, 8, 7],
+    volumes: &[2, 2, 1, 2, 1],
+};
 
 // A job that gave way to an earlier deadline has no claim afterwards.
-fn gave_way(k: u64) {
-    let mut table = [165u8; 5];
-    let releases = [1u16, 0, 1];
-    let deadlines = [5u16, 5, 2];
-    let volumes = [2u16, 2, 1];
-    show(k, 1, &releases, &deadlines, &volumes, &mut table);
-}
+const GAVE_WAY: List = List {
+    h: 5,
+    releases: &[1, 0, 1],
+    deadlines: &[5, 5, 2],
+    volumes: &[2, 2, 1],
+};
 
 // A lower number waits while another goes on.
-fn lower_waits(k: u64) {
-    let mut table = [165u8; 8];
-    let releases = [2u16, 0, 1];
-    let deadlines = [8u16, 8, 8];
-    let volumes = [2u16, 1, 3];
-    show(k, 1, &releases, &deadlines, &volumes, &mut table);
-}
+const LOWER_WAITS: List = List {
+    h: 8,
+    releases: &[2, 0, 1],
+    deadlines: &[8, 8, 8],
+    volumes: &[2, 1, 3],
+};
 
 // Equal releases and unequal deadlines are no tie.
-fn equal_releases(k: u64) {
-    let mut table = [165u8; 6];
-    let releases = [1u16, 1, 0];
-    let deadlines = [6u16, 5, 6];
-    let volumes = [2u16, 2, 2];
-    show(k, 1, &releases, &deadlines, &volumes, &mut table);
-}
+const EQUAL_RELEASES: List = List {
+    h: 6,
+    releases: &[1, 1, 0],
+    deadlines: &[6, 5, 6],
+    volumes: &[2, 2, 2],
+};
 
 // Each goes on until it is done; then the lowest number runs.
-fn falling(k: u64) {
-    let mut table = [165u8; 6];
-    let releases = [2u16, 1, 0];
-    let deadlines = [6u16, 6, 6];
-    let volumes = [1u16, 2, 3];
-    show(k, 1, &releases, &deadlines, &volumes, &mut table);
-}
+const FALLING: List = List {
+    h: 6,
+    releases: &[2, 1, 0],
+    deadlines: &[6, 6, 6],
+    volumes: &[1, 2, 3],
+};
 
 // Two short jobs come in between.
-fn broken_off(k: u64) {
-    let mut table = [165u8; 9];
-    let releases = [6u16, 0, 0, 4];
-    let deadlines = [9u16, 9, 2, 5];
-    let volumes = [1u16, 3, 1, 1];
-    show(k, 1, &releases, &deadlines, &volumes, &mut table);
-}
+const BROKEN_OFF: List = List {
+    h: 9,
+    releases: &[6, 0, 0, 4],
+    deadlines: &[9, 9, 2, 5],
+    volumes: &[1, 3, 1, 1],
+};
 
 // Too much work for the slots.
-fn overload(k: u64) {
-    let mut table = [165u8; 4];
-    let releases = [1u16, 0];
-    let deadlines = [4u16, 4];
-    let volumes = [2u16, 3];
-    show(k, 1, &releases, &deadlines, &volumes, &mut table);
-}
+const OVERLOAD: List = List {
+    h: 4,
+    releases: &[1, 0],
+    deadlines: &[4, 4],
+    volumes: &[2, 3],
+};
 
 // Three equal jobs.
-fn equal_jobs(k: u64) {
-    let mut table = [165u8; 9];
-    let releases = [0u16, 0, 0];
-    let deadlines = [9u16, 9, 9];
-    let volumes = [3u16, 3, 3];
-    show(k, 0, &releases, &deadlines, &volumes, &mut table);
-}
+const EQUAL_JOBS: List = List {
+    h: 9,
+    releases: &[0, 0, 0],
+    deadlines: &[9, 9, 9],
+    volumes: &[3, 3, 3],
+};
 
 // A job goes on behind slot 10, which sleeps.
-fn over_one_slot(k: u64) {
-    let mut table = [165u8; 18];
-    let releases = [2u16, 11, 15, 5, 8];
-    let deadlines = [4u16, 18, 16, 18, 11];
-    let volumes = [1u16, 1, 1, 5, 1];
-    show(k, 1, &releases, &deadlines, &volumes, &mut table);
-}
+const OVER_ONE_SLOT: List = List {
+    h: 18,
+    releases: &[2, 11, 15, 5, 8],
+    deadlines: &[4, 18, 16, 18, 11],
+    volumes: &[1, 1, 1, 5, 1],
+};
 
 // A job goes on behind slot 7, which step 4 leaves asleep and step 5 keeps awake.
-fn over_kept_slot(k: u64) {
-    let mut table = [165u8; 16];
-    let releases = [2u16, 8, 5, 5, 10, 3];
-    let deadlines = [3u16, 16, 16, 8, 16, 16];
-    let volumes = [1u16, 1, 2, 1, 1, 2];
-    show(k, 3, &releases, &deadlines, &volumes, &mut table);
-}
+const OVER_KEPT_SLOT: List = List {
+    h: 16,
+    releases: &[2, 8, 5, 5, 10, 3],
+    deadlines: &[3, 16, 16, 8, 16, 16],
+    volumes: &[1, 1, 2, 1, 1, 2],
+};
 
 // All of them, numbered from 0.
 pub fn each() {
-    card(0);
-    card_turned(1);
-    asleep(2, 0);
-    asleep(3, 1);
-    asleep(4, 2);
-    asleep(5, 3);
-    one_more(6);
-    one_more_short(7);
-    gave_way(8);
-    lower_waits(9);
-    equal_releases(10);
-    falling(11);
-    broken_off(12);
-    overload(13);
-    equal_jobs(14);
-    over_one_slot(15);
-    over_kept_slot(16);
+    show(0, 1, CARD);
+    show(1, 1, CARD_TURNED);
+    show(2, 0, OVER_SLEEP);
+    show(3, 1, OVER_SLEEP);
+    show(4, 2, OVER_SLEEP);
+    show(5, 3, OVER_SLEEP);
+    show(6, 2, ONE_MORE);
+    show(7, 1, MORE_CHANGES);
+    show(8, 1, GAVE_WAY);
+    show(9, 1, LOWER_WAITS);
+    show(10, 1, EQUAL_RELEASES);
+    show(11, 1, FALLING);
+    show(12, 1, BROKEN_OFF);
+    show(13, 1, OVERLOAD);
+    show(14, 0, EQUAL_JOBS);
+    show(15, 1, OVER_ONE_SLOT);
+    show(16, 3, OVER_KEPT_SLOT);
 }

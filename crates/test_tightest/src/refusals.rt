@@ -1,67 +1,71 @@
 // Single lists, all but one refused, each printed with its answer.
-use super::answer;
-use test_bytes::{first_entries, number};
+use crate::answer;
+use test_bytes::{List, first, number, text};
 
 // Prints a line: `refusal`, the number of the list, and the answer.
-fn show(k: u64, h: u16, releases: &[u16], deadlines: &[u16], volumes: &[u16]) {
-    test_bytes::text(b"refusal");
+fn show(k: u64, list: List<'_>) {
+    text(b"refusal");
     number(k);
-    answer::show(h, releases, deadlines, volumes);
+    answer::show(list);
 }
 
 // So many entries of each list, at most 65, as if every job were (0, 1, 1).
 fn lengths(k: u64, h: u16, releases: usize, deadlines: usize, volumes: usize) {
-    let begins = [0u16; 65];
-    let ends = [1u16; 65];
-    let works = [1u16; 65];
-    show(
-        k,
+    let list = List {
         h,
-        first_entries(&begins, releases),
-        first_entries(&ends, deadlines),
-        first_entries(&works, volumes),
-    );
+        releases: first(&[0; 65], releases),
+        deadlines: first(&[1; 65], deadlines),
+        volumes: first(&[1; 65], volumes),
+    };
+    show(k, list);
 }
 
 // 65 jobs, each faulty.
-fn too_many(k: u64) {
-    let releases = [9u16; 65];
-    let deadlines = [1u16; 65];
-    let volumes = [0u16; 65];
-    show(k, 4, &releases, &deadlines, &volumes);
-}
+const TOO_MANY: List = List {
+    h: 4,
+    releases: &[9; 65],
+    deadlines: &[1; 65],
+    volumes: &[0; 65],
+};
 
 // One job and four slots.
 fn one(k: u64, r: u16, d: u16, p: u16) {
-    let releases = [r];
-    let deadlines = [d];
-    let volumes = [p];
-    show(k, 4, &releases, &deadlines, &volumes);
+    let list = List {
+        h: 4,
+        releases: &[r],
+        deadlines: &[d],
+        volumes: &[p],
+    };
+    show(k, list);
 }
 
 // The lowest faulty job has no volume, a higher one is due too late.
-fn no_volume_first(k: u64) {
-    let releases = [0u16, 0, 5];
-    let deadlines = [4u16, 4, 5];
-    let volumes = [1u16, 0, 1];
-    show(k, 4, &releases, &deadlines, &volumes);
-}
+const NO_VOLUME_FIRST: List = List {
+    h: 4,
+    releases: &[0, 0, 5],
+    deadlines: &[4, 4, 5],
+    volumes: &[1, 0, 1],
+};
 
 // The lowest faulty job has no slot, a higher one is due too late.
-fn no_slot_first(k: u64) {
-    let releases = [0u16, 3, 0];
-    let deadlines = [4u16, 3, 9];
-    let volumes = [1u16, 1, 0];
-    show(k, 4, &releases, &deadlines, &volumes);
-}
+const NO_SLOT_FIRST: List = List {
+    h: 4,
+    releases: &[0, 3, 0],
+    deadlines: &[4, 3, 9],
+    volumes: &[1, 1, 0],
+};
 
 // Only the last of 64 jobs is faulty.
 fn last_job(k: u64) {
-    let releases = [0u16; 64];
-    let deadlines = [4u16; 64];
-    let mut volumes = [1u16; 64];
+    let mut volumes = [1; 64];
     volumes[63] = 0;
-    show(k, 4, &releases, &deadlines, &volumes);
+    let list = List {
+        h: 4,
+        releases: &[0; 64],
+        deadlines: &[4; 64],
+        volumes: &volumes,
+    };
+    show(k, list);
 }
 
 // The horizon, before all else.
@@ -79,7 +83,7 @@ fn counts() {
     lengths(7, 4, 1, 0, 1);
     lengths(8, 4, 65, 65, 64);
     lengths(9, 4, 65, 65, 65);
-    too_many(10);
+    show(10, TOO_MANY);
 }
 
 // No jobs.
@@ -94,8 +98,8 @@ fn jobs() {
     one(14, 5, 5, 0);
     one(15, 5, 4, 0);
     one(16, 0, 4, 0);
-    no_volume_first(17);
-    no_slot_first(18);
+    show(17, NO_VOLUME_FIRST);
+    show(18, NO_SLOT_FIRST);
     last_job(19);
 }
 

@@ -1,154 +1,155 @@
 // Single lists, each printed with its answer.
-use super::answer;
-use test_bytes::number;
+use crate::answer;
+use test_bytes::{List, number, text};
 
 // Prints a line: `worked`, the number of the list, and the answer.
-fn show(k: u64, h: u16, releases: &[u16], deadlines: &[u16], volumes: &[u16]) {
-    test_bytes::text(b"worked");
+fn show(k: u64, list: List<'_>) {
+    text(b"worked");
     number(k);
-    answer::show(h, releases, deadlines, volumes);
+    answer::show(list);
 }
 
 // The tightest interval is of two jobs, and none is inside.
-fn none_inside(k: u64) {
-    let releases = [3u16, 1];
-    let deadlines = [6u16, 4];
-    let volumes = [1u16, 2];
-    show(k, 6, &releases, &deadlines, &volumes);
-}
+const NONE_INSIDE: List = List {
+    h: 6,
+    releases: &[3, 1],
+    deadlines: &[6, 4],
+    volumes: &[1, 2],
+};
 
 // Each job alone is an overload, and both together are a greater one.
-fn overload(k: u64) {
-    let releases = [1u16, 3];
-    let deadlines = [3u16, 4];
-    let volumes = [3u16, 2];
-    show(k, 4, &releases, &deadlines, &volumes);
-}
+const OVERLOAD: List = List {
+    h: 4,
+    releases: &[1, 3],
+    deadlines: &[3, 4],
+    volumes: &[3, 2],
+};
 
 // The first list the other way round.
-fn none_inside_turned(k: u64) {
-    let releases = [1u16, 3];
-    let deadlines = [4u16, 6];
-    let volumes = [2u16, 1];
-    show(k, 6, &releases, &deadlines, &volumes);
-}
+const NONE_INSIDE_TURNED: List = List {
+    h: 6,
+    releases: &[1, 3],
+    deadlines: &[4, 6],
+    volumes: &[2, 1],
+};
 
 // The least horizon.
-fn one_slot(k: u64) {
-    let releases = [0u16];
-    let deadlines = [1u16];
-    let volumes = [1u16];
-    show(k, 1, &releases, &deadlines, &volumes);
-}
+const ONE_SLOT: List = List {
+    h: 1,
+    releases: &[0],
+    deadlines: &[1],
+    volumes: &[1],
+};
 
 // On equal slack the one that ends first.
-fn first_end(k: u64) {
-    let releases = [0u16, 5];
-    let deadlines = [5u16, 10];
-    let volumes = [2u16, 2];
-    show(k, 10, &releases, &deadlines, &volumes);
-}
+const FIRST_END: List = List {
+    h: 10,
+    releases: &[0, 5],
+    deadlines: &[5, 10],
+    volumes: &[2, 2],
+};
 
-fn first_end_turned(k: u64) {
-    let releases = [5u16, 0];
-    let deadlines = [10u16, 5];
-    let volumes = [2u16, 2];
-    show(k, 10, &releases, &deadlines, &volumes);
-}
+// So is this, the other way round.
+const FIRST_END_TURNED: List = List {
+    h: 10,
+    releases: &[5, 0],
+    deadlines: &[10, 5],
+    volumes: &[2, 2],
+};
 
 // On equal slack and the same end the one that begins last.
-fn last_begin(k: u64) {
-    let releases = [0u16, 2];
-    let deadlines = [10u16, 10];
-    let volumes = [2u16, 4];
-    show(k, 10, &releases, &deadlines, &volumes);
-}
+const LAST_BEGIN: List = List {
+    h: 10,
+    releases: &[0, 2],
+    deadlines: &[10, 10],
+    volumes: &[2, 4],
+};
 
-fn last_begin_turned(k: u64) {
-    let releases = [2u16, 0];
-    let deadlines = [10u16, 10];
-    let volumes = [4u16, 2];
-    show(k, 10, &releases, &deadlines, &volumes);
-}
+// So is this, the other way round.
+const LAST_BEGIN_TURNED: List = List {
+    h: 10,
+    releases: &[2, 0],
+    deadlines: &[10, 10],
+    volumes: &[4, 2],
+};
 
 // Several jobs with one release: all of them count.
-fn one_release(k: u64) {
-    let releases = [0u16, 0, 0];
-    let deadlines = [4u16, 6, 6];
-    let volumes = [1u16, 2, 1];
-    show(k, 6, &releases, &deadlines, &volumes);
-}
+const ONE_RELEASE: List = List {
+    h: 6,
+    releases: &[0, 0, 0],
+    deadlines: &[4, 6, 6],
+    volumes: &[1, 2, 1],
+};
 
 // From the release 3 to the deadline 3 there is no slot, so that is no interval.
-fn end_to_end(k: u64) {
-    let releases = [0u16, 3];
-    let deadlines = [3u16, 6];
-    let volumes = [1u16, 1];
-    show(k, 6, &releases, &deadlines, &volumes);
-}
+const END_TO_END: List = List {
+    h: 6,
+    releases: &[0, 3],
+    deadlines: &[3, 6],
+    volumes: &[1, 1],
+};
 
 // Four intervals have no slack: from 2 or 4 to 5 or 7.
-fn four_equal(k: u64) {
-    let releases = [0u16, 4, 4, 2];
-    let deadlines = [9u16, 5, 7, 5];
-    let volumes = [1u16, 1, 2, 2];
-    show(k, 9, &releases, &deadlines, &volumes);
-}
+const FOUR_EQUAL: List = List {
+    h: 9,
+    releases: &[0, 4, 4, 2],
+    deadlines: &[9, 5, 7, 5],
+    volumes: &[1, 1, 2, 2],
+};
 
 // The last and the first slot of the greatest horizon.
-fn both_ends(k: u64) {
-    let releases = [4095u16, 0];
-    let deadlines = [4096u16, 1];
-    let volumes = [1u16, 1];
-    show(k, 4096, &releases, &deadlines, &volumes);
-}
+const BOTH_ENDS: List = List {
+    h: 4096,
+    releases: &[4095, 0],
+    deadlines: &[4096, 1],
+    volumes: &[1, 1],
+};
 
 // The greatest volume.
-fn greatest(k: u64) {
-    let releases = [0u16];
-    let deadlines = [4096u16];
-    let volumes = [65535u16];
-    show(k, 4096, &releases, &deadlines, &volumes);
-}
+const GREATEST: List = List {
+    h: 4096,
+    releases: &[0],
+    deadlines: &[4096],
+    volumes: &[65535],
+};
 
 // Added modulo 2^16, it takes 1 away.
 const DOWN: u16 = 65535;
 
-// Writes entries that begin with `first`, each greater by `step` than the one before.
-fn lay(first: u16, step: u16, out: &mut [u16]) {
-    let mut x = first;
-    let mut j = 0;
-    while j < out.len() {
-        out[j] = x;
-        x = std::num::wrapping_add_u16(x, step);
-        j += 1;
+// Entries that begin with `first`, each greater by `step` than the one before.
+fn laid(first: u16, step: u16) -> [u16; 64] {
+    let mut out = [first; 64];
+    for j in 1..64 {
+        out[j] = out[j - 1].wrapping_add(step);
     }
+    out
 }
 
 // 64 jobs of the volume p: job 0 is (r, d, p), and each is released and due by these steps later than the one before.
 fn row(k: u64, h: u16, r: u16, r_step: u16, d: u16, d_step: u16, p: u16) {
-    let mut releases = [0u16; 64];
-    let mut deadlines = [0u16; 64];
-    let volumes = [p; 64];
-    lay(r, r_step, &mut releases);
-    lay(d, d_step, &mut deadlines);
-    show(k, h, &releases, &deadlines, &volumes);
+    let row = List {
+        h,
+        releases: &laid(r, r_step),
+        deadlines: &laid(d, d_step),
+        volumes: &[p; 64],
+    };
+    show(k, row);
 }
 
 fn single() {
-    none_inside(1);
-    overload(2);
-    none_inside_turned(3);
-    one_slot(4);
-    first_end(5);
-    first_end_turned(6);
-    last_begin(7);
-    last_begin_turned(8);
-    one_release(9);
-    end_to_end(10);
-    four_equal(11);
-    both_ends(12);
-    greatest(13);
+    show(1, NONE_INSIDE);
+    show(2, OVERLOAD);
+    show(3, NONE_INSIDE_TURNED);
+    show(4, ONE_SLOT);
+    show(5, FIRST_END);
+    show(6, FIRST_END_TURNED);
+    show(7, LAST_BEGIN);
+    show(8, LAST_BEGIN_TURNED);
+    show(9, ONE_RELEASE);
+    show(10, END_TO_END);
+    show(11, FOUR_EQUAL);
+    show(12, BOTH_ENDS);
+    show(13, GREATEST);
 }
 
 // The greatest volumes: every job has all slots; each lies inside the one before; they stand side by side.

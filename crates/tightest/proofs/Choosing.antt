@@ -5,44 +5,17 @@ use mathlib.Core.Bool.{Bool, true, false}
 use mathlib.Core.Logic.{◌⊎◌, inl, inr}
 use native.Mathlib.Omega.{arith}
 use native.Mathlib.Decide.{ℕ_discrete}
-use borrow.Author.Tests.{lt-ltb, le-ltb, ltb-true, ltb-false}
+use borrow.Author.Tests.{ltb-true, ltb-false}
 use lib.Dec.{ltb}
-use lib.IntN.{ℤ}
-use lib.Signed.{lt_z, ◌≤ℤ◌, ≤ℤ_refl, clash_ℤ}
-use Rattle.sched.proofs.Bounded.Laws.{by_bool}
-use Rattle.sched.specs.Jobs.{Jobs, count, deadline}
+use lib.Signed.{lt_z}
+use Rattle.sched.specs.Jobs.{Jobs, deadline}
 use Rattle.tightest.specs.declared.Tight.{Tight}
-use Rattle.tightest.proofs.Signed.{less_is, less_not, less_at_most, at_most_both}
-use Rattle.tightest.specs.Slack.{slack_of, gauged, ReleaseToDeadline, IsTightest, Gauged, AsGood}
-use Rattle.tightest.proofs.Slack.Laws.{as_good_self, as_good_trans, less_good, best_tightest}
+use Rattle.tightest.proofs.Signed.{less_is, less_not}
+use Rattle.tightest.specs.Slack.{slack_of, gauged, ReleaseToDeadline, Gauged, AsGood}
+use Rattle.tightest.proofs.Slack.Laws.{as_good_self, as_good_trans, less_good}
 use Rattle.tightest.specs.Search.{chosen, rather, TightestTo}
 
-not_less : (x y : ℤ) → y ≤ℤ x → lt_z x y ≡ false
-not_less x y l = by_bool (lt_z x y) (λ t. clash_ℤ (less_is x y t) l) (λ f. f)
-
 module _ (x y : Tight) where
-  -- each way through the code
-
-  pub less_first : lt_z x.slack y.slack ≡ true → x ≡ rather x y
-  less_first l = simp (not_less y.slack x.slack (less_at_most (less_is x.slack y.slack l)), l)
-
-  pub more_first : lt_z x.slack y.slack ≡ false → (x.slack ≡ y.slack → ⊥) → y ≡ rather x y
-  more_first l other = by_bool (lt_z y.slack x.slack) (λ t. simp t) (λ t. absurd (other (at_most_both (less_not y.slack x.slack t) (less_not x.slack y.slack l))))
-
-  -- equal slack
-  module _ (e : x.slack ≡ y.slack) where
-    back : lt_z y.slack x.slack ≡ false
-    back = not_less y.slack x.slack (subst (λ (z : ℤ). x.slack ≤ℤ z) e (≤ℤ_refl x.slack))
-
-    forth : lt_z x.slack y.slack ≡ false
-    forth = not_less x.slack y.slack (subst (λ (z : ℤ). z ≤ℤ x.slack) e (≤ℤ_refl x.slack))
-
-    pub ends_first : x.b ≤ y.b → x ≡ rather x y
-    ends_first l = simp (back, forth, le-ltb y.b x.b l)
-
-    pub ends_later : y.b < x.b → y ≡ rather x y
-    ends_later l = simp (back, forth, lt-ltb y.b x.b l)
-
   -- what is kept is one of the two, and as good as both
   pub rather_good : (y.slack ≡ x.slack → y.b ≡ x.b → y.a ≤ x.a) →
       ((rather x y ≡ x) ⊎ (rather x y ≡ y)) × AsGood (rather x y) x × AsGood (rather x y) y
@@ -69,14 +42,6 @@ module _ (J : Jobs) where
   own_best : {b : ℕ} {x : Tight} → TightestTo J b x → (a : ℕ) → ReleaseToDeadline J a x.b → AsGood x (gauged J a x.b)
   own_best {b = b} {x = x} t = subst (λ (e : ℕ). (a : ℕ) → ReleaseToDeadline J a e → AsGood x (gauged J a e)) (sym t.end_is) t.best
 
-  pub first_end : (x : Tight) → TightestTo J (deadline J 0) x → BestTo 1 x
-  first_end x t =
-      record {
-        gauged_is = t.gauged_is;
-        own = own_best t;
-        best = λ j l a s. let e : 0 ≡ j = omega arith in subst (λ (i : ℕ). (a : ℕ) → ReleaseToDeadline J a (deadline J i) → AsGood x (gauged J a (deadline J i))) e t.best a s;
-      }
-
   pub next_end : (m : ℕ) (x y : Tight) → BestTo m x → TightestTo J (deadline J m) y → BestTo (m + 1) (rather x y)
   next_end m x y w t = kept (rather_good x y ties)
     where
@@ -101,11 +66,3 @@ module _ (J : Jobs) where
             own = subst (λ (r : Tight). (a : ℕ) → ReleaseToDeadline J a r.b → AsGood r (gauged J a r.b)) (sym e) (own_best t);
             best = λ j l. each p q j l (ℕ_discrete m j);
           }
-
-  pub all_ends : (m : ℕ) (x : Tight) → count J ≤ m → BestTo m x → IsTightest J x
-  all_ends m x l w = best_tightest J x w.gauged_is each
-    where
-      each : (a b : ℕ) → ReleaseToDeadline J a b → AsGood x (gauged J a b)
-      each a b s =
-          let (j, k, e) = s.due in
-          subst (λ (v : ℕ). AsGood x (gauged J a v)) e (w.best j (omega arith) a (subst (ReleaseToDeadline J a) (sym e) s))

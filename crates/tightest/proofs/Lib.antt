@@ -1,4 +1,3 @@
-pub mod Machine
 pub mod Seeking
 pub mod Walk
 pub mod Walking

@@ -5,7 +5,7 @@ use mathlib.Core.List.{List}
 use native.Mathlib.Omega.{arith}
 use native.Mathlib.Decide.{ℕ_discrete}
 use lib.ListN.{length, get_or}
-use Rattle.tightest.specs.Search.{Startable, CountsBefore}
+use Rattle.tightest.specs.Search.{Startable}
 
 -- the jobs from place n on are not released before b
 pub record Seeking (releases order : List ℕ) (b n : ℕ) : Type 0 where
@@ -18,15 +18,6 @@ pub seek_start : {releases order : List ℕ} {b : ℕ} → Startable releases or
 seek_start a = record { asked = a; within = omega arith; ahead = a.below; rest = λ k l m. absurd (omega arith) }
 
 module _ {releases order : List ℕ} {b n : ℕ} (s : Seeking releases order b n) where
-  pub seek_some : 0 < n
-  seek_some = omega (arith, s.ahead)
-
-  pub seek_place : n - 1 < length order
-  seek_place = omega (arith, s.ahead, s.within)
-
-  pub seek_job : get_or order (n - 1) 0 < length releases
-  seek_job = s.asked.known (n - 1) seek_place
-
   pub seek_on : b ≤ get_or releases (get_or order (n - 1) 0) 0 → Seeking releases order b (n - 1)
   seek_on l =
       record {
@@ -43,6 +34,3 @@ module _ {releases order : List ℕ} {b n : ℕ} (s : Seeking releases order b n
       later : (k : ℕ) → n - 1 ≤ k → k < length order → Dec (k ≡ n - 1) → b ≤ get_or releases (get_or order k 0) 0
       later k m o (yes e) = omega (arith, ap (λ (k : ℕ). get_or releases (get_or order k 0) 0) e)
       later k m o (no e) = s.rest k (omega arith) o
-
-  pub seek_end : get_or releases (get_or order (n - 1) 0) 0 < b → CountsBefore releases order b n
-  seek_end l = record { some = seek_some; within = s.within; last = l; rest = s.rest }

@@ -1,5 +1,5 @@
 -- 02, card 7: what the tightest interval is, by the words of `specs/Theorems`.
-use Rattle.std.specs.Prelude.{ℕ, zero, suc, ◌+◌, ◌≤◌, ◌<◌, ◌≡◌, refl, true, false, ◌⊎◌, eqb, ◌≤ℤ◌}
+use Rattle.std.specs.Prelude.{ℕ, zero, suc, ◌+◌, ◌≤◌, ◌<◌, ◌≡◌, refl, true, false, ◌⊎◌, eqb, ◌≤ℤ◌, Err, Ok, Result}
 use Rattle.std.proofs.Common.{sym, ap, ◌∙◌, arith, eqb-true}
 use Rattle.std.proofs.lemmas.Bool.{eqb-false}
 use Rattle.sched.specs.Bounded.{any_below}
@@ -8,12 +8,9 @@ use Rattle.sched.specs.Jobs.{Jobs, count, release, deadline}
 use Rattle.sched.specs.Checks.{Passes, check_of}
 use Rattle.sched.specs.declared.Refusal.{Refusal}
 use Rattle.sched.specs.declared.Refusal.TheVariants.{NoJobs}
-use Rattle.sched.specs.declared.Checked.TheVariants.{Refused as Faulty}
 use Rattle.steps.specs.Overload.{volume_inside}
 use Rattle.laws_edf.proofs.Overload.Ends.{end_unused, start_unused}
 use Rattle.tightest.specs.declared.Tight.{Tight}
-use Rattle.tightest.specs.declared.Tightness.{Tightness}
-use Rattle.tightest.specs.declared.Tightness.TheVariants.{Found, Refused}
 use Rattle.tightest.proofs.Signed.{slack_at_most, at_most_trans}
 use Rattle.tightest.specs.Slack.{slack_of, ReleaseToDeadline, IsTightest, tightest_of}
 use Rattle.tightest.specs.Answer.{TightnessPromise}
@@ -71,25 +68,25 @@ module _ (J : Jobs) (p : Passes J) where
 
 -- Of what `find` answers
 
-module _ (J : Jobs) (answer : Tightness) (promise : TightnessPromise J answer) where
+module _ (J : Jobs) (answer : Result Tight Refusal) (promise : TightnessPromise J answer) where
   -- an interval is reported exactly of the lists that pass the list checks and have a job
 
-  pub reports_if : Passes J → 0 < count J → (x : Tight) × (answer ≡ Found x)
+  pub reports_if : Passes J → 0 < count J → (x : Tight) × (answer ≡ Ok x)
   reports_if p some = (tightest_of J, promise.same ∙ found_if J p some)
 
-  pub reports_only : (x : Tight) → answer ≡ Found x → Passes J × (0 < count J)
+  pub reports_only : (x : Tight) → answer ≡ Ok x → Passes J × (0 < count J)
   reports_only x e = found_checked J x (sym promise.same ∙ e)
 
   -- a fault of the list is told as the list checks tell it, and nothing else is refused but a list without jobs
 
-  pub refuses_if : (r : Refusal) → check_of J ≡ Faulty r → answer ≡ Refused r
+  pub refuses_if : (r : Refusal) → check_of J ≡ Err r → answer ≡ Err r
   refuses_if r e = promise.same ∙ sym (list_refused J r e).same
 
-  pub refuses_only : (r : Refusal) → answer ≡ Refused r → (check_of J ≡ Faulty r) ⊎ (Passes J × (count J ≡ 0) × (r ≡ NoJobs 0))
+  pub refuses_only : (r : Refusal) → answer ≡ Err r → (check_of J ≡ Err r) ⊎ (Passes J × (count J ≡ 0) × (r ≡ NoJobs 0))
   refuses_only r e = refused_only J r (sym promise.same ∙ e)
 
   -- no interval from a release to a deadline has less slack, and no interval that holds a job
-  module _ (x : Tight) (e : answer ≡ Found x) where
+  module _ (x : Tight) (e : answer ≡ Ok x) where
     pub never_undercut : (a b : ℕ) → ReleaseToDeadline J a b → x.slack ≤ℤ slack_of J a b
     never_undercut a b s = (promise.tightest x e).least a b s
 

@@ -1,6 +1,6 @@
 -- The walk of the code, for every list with these lists, and what it may read on the way.
 use Prim.Native.Nat.{ℕ, suc, ◌+◌, ◌-◌, ◌*◌, ◌≤◌, ◌<◌}
-use mathlib.Core.Path.{◌≡◌, sym, ap, subst, ◌∙◌}
+use mathlib.Core.Path.{◌≡◌, refl, sym, ap, subst, ◌∙◌}
 use mathlib.Core.List.{List}
 use native.Mathlib.Omega.{arith}
 use native.Mathlib.Decide.{dec_lt, dec_le}
@@ -13,11 +13,8 @@ use Rattle.orders.specs.Rising.{rising_by, key_of}
 use Rattle.orders.specs.Rising.Members.{rising_sorted}
 use Rattle.orders.specs.Views.Falling.{places_sum}
 use Rattle.orders.specs.Lists.{ListsOf, release_is, deadline_is, volume_is}
-use Rattle.tightest.specs.Search.{Listed, Arranged, EndsAt, Startable, CountsBefore, Visits, TightestTo}
+use Rattle.tightest.specs.Search.{widest, Arranged, EndsAt, Startable, CountsBefore, Visits, TightestTo}
 use Rattle.tightest.proofs.Walk.{WalkedTo, walk_start, walk_visit, walk_end}
-
-pub listed_few : {releases deadlines volumes : List ℕ} → Listed releases deadlines volumes → length releases ≤ 64
-listed_few l = let p = l.lists in omega (arith, p.passes.few, ap length p.releases_are)
 
 module _ {releases deadlines volumes order : List ℕ} (a : Arranged releases deadlines volumes order) where
   -- the jobs of any list with these lists, by release
@@ -37,8 +34,8 @@ module _ {releases deadlines volumes order : List ℕ} (a : Arranged releases de
     ending : {b : ℕ} → EndsAt deadlines b → (j : ℕ) × (j < count J) × (deadline J j ≡ b)
     ending (j, l, e) = (j, omega (arith, p.passes.same_deadlines, ap length p.deadlines_are), deadline_is p j ∙ e)
 
-  given : ListsOf a.listed.J releases deadlines volumes
-  given = a.listed.lists
+  given : ListsOf (widest releases deadlines volumes) releases deadlines volumes
+  given = record { passes = a.passes; releases_are = refl; deadlines_are = refl; volumes_are = refl }
 
   order_long : length order ≡ length releases
   order_long = (sorted given).long ∙ few given

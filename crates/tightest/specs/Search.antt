@@ -1,7 +1,8 @@
 -- What the functions of the search promise each other.
 use Rattle.std.specs.Prelude.{ℕ, ◌+◌, ◌-◌, ◌≤◌, ◌<◌, ◌≡◌, Bool, true, false, List, length, get_or, ltb}
 use Rattle.std.specs.Int.Signed.{lt_z}
-use Rattle.sched.specs.Jobs.{Jobs, count}
+use Rattle.sched.specs.Jobs.{Jobs, jobs_of, count}
+use Rattle.sched.specs.Checks.{Passes}
 use Rattle.orders.specs.Rising.{rising_by, key_of}
 use Rattle.orders.specs.Lists.{ListsOf}
 use Rattle.tightest.specs.declared.Tight.{Tight}
@@ -22,9 +23,14 @@ pub record Listed (releases deadlines volumes : List ℕ) : Type 0 where
   pub lists : ListsOf J releases deadlines volumes
   pub some : 0 < count J
 
--- .. and its jobs by release
+-- the job list of these lists with the greatest horizon: where any job list of them passes the checks, it does, too
+abbrev pub widest : List ℕ → List ℕ → List ℕ → Jobs
+widest releases deadlines volumes = jobs_of 4096 0 releases deadlines volumes
+
+-- the same of lists alone, and the numbers of the jobs by release
 pub record Arranged (releases deadlines volumes order : List ℕ) : Type 0 where
-  pub listed : Listed releases deadlines volumes
+  pub passes : Passes (widest releases deadlines volumes)
+  pub some : 0 < length releases
   pub order_is : order ≡ rising_by (key_of releases) (length releases)
 
 -- b is a job's deadline

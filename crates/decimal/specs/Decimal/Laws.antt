@@ -61,6 +61,21 @@ length_low n l = ap length (digits_low n l)
 length_high : (n : ℕ) → 10 ≤ n → n < 18446744073709551616 → length (digits n) ≡ length (digits (n / 10)) + 1
 length_high n l m = ap length (digits_high n l m) ∙ length-append (digits (n / 10)) ((48 + n % 10) ∷ [])
 
+one_le_pow : (k : ℕ) → 1 ≤ 10 ^ k
+one_le_pow zero = omega arith
+one_le_pow (suc k) = let p : 10 ^ suc k ≡ 10 ^ k * 10 = pow-suc 10 k in omega (arith, one_le_pow k)
+
+-- as many as its logarithm says, and one more
+pub length_by_log : (k n : ℕ) → 10 ^ k ≤ n → n < 10 * 10 ^ k → n < 18446744073709551616 → k + 1 ≡ length (digits n)
+length_by_log zero n low high m = sym (length_low n (omega arith))
+length_by_log (suc k) n low high m =
+    let p : 10 ^ suc k ≡ 10 ^ k * 10 = pow-suc 10 k in
+    let ten : 10 ≤ n = omega (arith, one_le_pow k) in
+    omega (arith, length_high n ten m, length_by_log k (n / 10) (omega arith) (omega arith) (omega arith))
+
+pub length_zero : (n m : ℕ) → n < 10 → m < 10 → length (digits n) ≡ length (digits m)
+length_zero n m l k = length_low n l ∙ sym (length_low m k)
+
 pub digits_some : (n : ℕ) → 1 ≤ length (digits n)
 unfolding digits
 digits_some n = go (dec_lt n 10)
@@ -138,3 +153,27 @@ module _ (x at : ℕ) (out₀ out : List ℕ) (left place : ℕ) (s : Stored x a
         next = e;
         bytes = sym (s.rest ∙ ap (sets out at) (digits_low left l)) ∙ sets-eq (digits x) out₀ at room;
       }
+
+-- storing, also where no digit is left
+pub record StoredTo (x at : ℕ) (out₀ out : List ℕ) (left place : ℕ) : Type 0 where
+  pub going : at < place → Stored x at out₀ out left place
+  pub done : place ≤ at → sets out₀ at (digits x) ≡ out
+
+pub stored_one : (x at : ℕ) (out₀ out : List ℕ) (left place : ℕ) → at < place → StoredTo x at out₀ out left place →
+    StoredTo x at out₀ (set out (place - 1) (48 + left % 10)) (left / 10) (place - 1)
+stored_one x at out₀ out left place l t = go (dec_lt left 10) (t.going l)
+  where
+    go : Dec (left < 10) → Stored x at out₀ out left place → StoredTo x at out₀ (set out (place - 1) (48 + left % 10)) (left / 10) (place - 1)
+    go (yes low) s =
+        let last : place - 1 ≡ at = omega (arith, s.behind, length_low left low) in
+        let digit : left % 10 ≡ left = omega arith in
+        record {
+          going = λ m. absurd (omega arith);
+          done = λ m. s.rest ∙ ap (sets out at) (digits_low left low) ∙ rw (last, digit);
+        }
+    go (no high) s =
+        let more = stored_turn x at out₀ out left place s (omega arith) in
+        record {
+          going = λ m. more;
+          done = λ m. absurd (omega (arith, more.behind, digits_some (left / 10)));
+        }

@@ -1,6 +1,6 @@
 -- An input that is read has at most 453 bytes, and of any input no more than its first 454 count: bytes behind them change no answer.
 use Prim.Native.Nat.{ℕ, zero, suc, ◌+◌, ◌*◌, ◌≤◌, ◌<◌}
-use Rattle.std.specs.Prelude.{◌≡◌, refl, Bool, true, false, List, ◌++◌, take, drop}
+use Rattle.std.specs.Prelude.{◌≡◌, refl, Bool, true, false, List, ◌++◌, take, drop, Ok}
 use Rattle.std.proofs.Common.{ap, sym, ◌∙◌, arith, length-take, take-append-drop, take_all}
 use Rattle.std.proofs.Math.Nat.{mul-suc}
 use Rattle.std.proofs.Math.Decide.{dec_le}
@@ -10,7 +10,6 @@ use Rattle.std.proofs.Math.Seq.{drop-append-le}
 use Rattle.sched.specs.TwoBytes.{word}
 use Rattle.sched.specs.Checks.{JobCheck, and_then, job_check}
 use Rattle.sched.proofs.Checks.Laws.{then_same}
-use Rattle.sched.specs.declared.Checked.TheVariants.{Passed}
 use Rattle.list_parts.specs.Header.{header_length, header_horizon, count_in, header_count, header_check}
 use Rattle.list_parts.specs.Layout.{absent_release, absent_deadline, absent_volume, has_release, has_deadline, has_volume, release_at, deadline_at, volume_at}
 use Rattle.list_parts.specs.Entries.{EntryCheck, entry_map, entry_size, value_if, known_maps, map_check, whole_check, field_check, redundancy_check}
@@ -26,7 +25,7 @@ use Rattle.joblist.proofs.Laws.Input.{read_passed}
 
 module _ (size : List ℕ → ℕ) (most : ℕ) (short : (bs : List ℕ) → size bs ≤ most) where
   -- k entries, and nothing behind them
-  entries_short : (check : EntryCheck) (k j at : ℕ) (bs : List ℕ) → entries_check check size k j at bs ≡ Passed → length bs ≤ most * k
+  entries_short : (check : EntryCheck) (k j at : ℕ) (bs : List ℕ) → entries_check check size k j at bs ≡ Ok tt → length bs ≤ most * k
   entries_short check zero j at bs e = omega (arith, ap length (entries_none check size j at bs e))
   entries_short check (suc k) j at bs e =
       let rest = entries_short check k (suc j) (at + size bs) (drop (size bs) bs) (entries_first check size k j at bs e).1 in
@@ -163,7 +162,7 @@ read_cut n bytes r d p l = go (dec_le (length bytes) n)
         ∙ ap (λ (bs : List ℕ). read_check bs r d p) (take-append-drop n bytes)
 
 -- what is read has at most 5 + 7 × 64 bytes
-pub read_short : (bytes : List ℕ) (r d p : ℕ) → read_check bytes r d p ≡ Passed → length bytes ≤ 453
+pub read_short : (bytes : List ℕ) (r d p : ℕ) → read_check bytes r d p ≡ Ok tt → length bytes ≤ 453
 read_short bytes r d p e =
     let g = read_passed bytes r d p e in
     let check = entry_check job_check (header_horizon bytes) (length bytes) in

@@ -1,17 +1,15 @@
 -- The place of every refusal of the reader is small: no list has more than 453 bytes, and what follows them is told by its offset.
 use Prim.Native.Nat.{ℕ, zero, suc, ◌+◌, ◌*◌, ◌≤◌, ◌<◌}
-use Rattle.std.specs.Prelude.{◌≡◌, refl, Bool, true, false, not, List, length, drop, leb, ltb, eqb}
+use Rattle.std.specs.Prelude.{◌≡◌, refl, Bool, true, false, not, List, length, drop, leb, ltb, eqb, Err, Ok}
 use Rattle.std.proofs.Math.Nat.{mul-suc}
 use Rattle.std.proofs.Common.{arith}
 use borrow.Author.Tests.{ltb-true, eqb-true}
 use Rattle.std.proofs.Math.ListN.{length-drop}
-use Rattle.sched.specs.Refusals.{place}
+use Rattle.sched.specs.Refusals.{place, Checked}
 use Rattle.sched.specs.Checks.{JobCheck, refuse_if, and_then, horizon_check, count_check, length_check, job_check}
 use Rattle.sched.proofs.Checks.Laws.{job_place}
 use Rattle.sched.specs.declared.Refusal.{Refusal}
 use Rattle.sched.specs.declared.Refusal.TheVariants.{Truncated, OutOfRange, UnknownBit, Redundant, LeftOver, TooShort}
-use Rattle.sched.specs.declared.Checked.{Checked}
-use Rattle.sched.specs.declared.Checked.TheVariants.{Passed, Refused}
 use Rattle.list_parts.specs.Header.{header_length, header_horizon, header_count, header_check}
 use Rattle.list_parts.specs.Layout.{absent_release, absent_deadline, absent_volume, has_release, has_deadline, has_volume, release_at, deadline_at}
 use Rattle.list_parts.specs.Layout.{volume_at}
@@ -24,8 +22,8 @@ use Rattle.joblist.specs.Reading.{lent_check, behind_header, read_check}
 
 -- the place of a refusal, if there is one, is at most m
 abbrev pub PlaceWithin : ℕ → Checked → Type 0
-PlaceWithin m Passed = Unit {0}
-PlaceWithin m (Refused r) = place r ≤ m
+PlaceWithin m (Ok tt) = Unit {0}
+PlaceWithin m (Err r) = place r ≤ m
 
 module _ (m : ℕ) where
   if_within : (b : Bool) (r : Refusal) (c : Checked) → (b ≡ true → place r ≤ m) → (b ≡ false → PlaceWithin m c) → PlaceWithin m (refuse_if b r c)
@@ -33,16 +31,16 @@ module _ (m : ℕ) where
   if_within false r c f g = g refl
 
   -- a check with one test
-  one_within : (b : Bool) (r : Refusal) → (b ≡ true → place r ≤ m) → PlaceWithin m (refuse_if b r Passed)
-  one_within b r f = if_within b r Passed f (λ _. tt)
+  one_within : (b : Bool) (r : Refusal) → (b ≡ true → place r ≤ m) → PlaceWithin m (refuse_if b r (Ok tt))
+  one_within b r f = if_within b r (Ok tt) f (λ _. tt)
 
-  then_within : (a c : Checked) → PlaceWithin m a → (a ≡ Passed → PlaceWithin m c) → PlaceWithin m (and_then a c)
-  then_within Passed c f g = g refl
-  then_within (Refused r) c f g = f
+  then_within : (a c : Checked) → PlaceWithin m a → (a ≡ Ok tt → PlaceWithin m c) → PlaceWithin m (and_then a c)
+  then_within (Ok tt) c f g = g refl
+  then_within (Err r) c f g = f
 
   horizon_within : (h : ℕ) → PlaceWithin m (horizon_check h)
   horizon_within h =
-      if_within (eqb h 0) (OutOfRange 0) (refuse_if (ltb 4096 h) (OutOfRange 0) Passed) (λ _. omega arith)
+      if_within (eqb h 0) (OutOfRange 0) (refuse_if (ltb 4096 h) (OutOfRange 0) (Ok tt)) (λ _. omega arith)
       (λ _. one_within (ltb 4096 h) (OutOfRange 0) (λ _. omega arith))
 
   length_within : (have need : ℕ) → need ≤ m → PlaceWithin m (length_check have need)
@@ -52,15 +50,15 @@ module _ (m : ℕ) where
   job_within h j r d p l = within (job_check h j r d p) refl
     where
       within : (c : Checked) → job_check h j r d p ≡ c → PlaceWithin m c
-      within Passed e = tt
-      within (Refused x) e = omega (arith, job_place h j r d p x e)
+      within (Ok tt) e = tt
+      within (Err x) e = omega (arith, job_place h j r d p x e)
 
   -- An entry
 
   map_within : (maps n at : ℕ) (bs : List ℕ) → at + length bs ≡ n → at ≤ m → PlaceWithin m (map_check maps n at bs)
   unfolding map_check
   map_within maps n at bs e l =
-      let known = refuse_if (leb maps (entry_map bs)) (UnknownBit at) Passed in
+      let known = refuse_if (leb maps (entry_map bs)) (UnknownBit at) (Ok tt) in
       if_within (eqb (length bs) 0) (Truncated n) known (λ t. omega (arith, eqb-true (length bs) 0 t))
       (λ _. one_within (leb maps (entry_map bs)) (UnknownBit at) (λ _. l))
 
@@ -99,7 +97,7 @@ module _ (m : ℕ) where
   -- The walk, for entries of at most `most` bytes
 
   module _ (check : EntryCheck) (size : List ℕ → ℕ) (n most : ℕ) (short : (bs : List ℕ) → size bs ≤ most)
-      (whole : (j at : ℕ) (bs : List ℕ) → check j at bs ≡ Passed → size bs ≤ length bs)
+      (whole : (j at : ℕ) (bs : List ℕ) → check j at bs ≡ Ok tt → size bs ≤ length bs)
       (each : (j at : ℕ) (bs : List ℕ) → j < m → at + length bs ≡ n → at + most ≤ m → PlaceWithin m (check j at bs)) where
     pub entries_within : (k j at : ℕ) (bs : List ℕ) → j + k ≤ m → at + length bs ≡ n → at + most * k ≤ m →
         PlaceWithin m (entries_check check size k j at bs)

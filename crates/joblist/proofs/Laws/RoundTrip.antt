@@ -1,11 +1,10 @@
 -- Entries and whole lists, written and read back, and read and written again.
-use Rattle.std.specs.Prelude.{ℕ, zero, suc, ◌<◌, ◌≡◌, refl, Bool, List, [], ◌∷◌, ◌++◌, length, get_or, drop}
+use Rattle.std.specs.Prelude.{ℕ, zero, suc, ◌<◌, ◌≡◌, refl, Bool, List, [], ◌∷◌, ◌++◌, length, get_or, drop, Ok}
 use Rattle.std.proofs.Common.{ap, ◌∙◌, append_assoc, arith, length-drop, drop-drop}
 use Rattle.sched.specs.TwoBytes.{AreBytes}
 use Rattle.sched.proofs.TwoBytes.Laws.{are_bytes_drop}
 use Rattle.sched.specs.Checks.{GoodJob, job_check}
 use Rattle.sched.proofs.Checks.Laws.{then_passes, job_good, job_passes}
-use Rattle.sched.specs.declared.Checked.TheVariants.{Passed}
 use Rattle.list_parts.specs.Layout.{absent_release, absent_deadline, absent_volume, has_release, has_deadline, has_volume, map_byte, width, release_at}
 use Rattle.list_parts.specs.Layout.{deadline_at, volume_at, stands, bytes_if, job_map, entry_bytes}
 use Rattle.list_parts.specs.Entries.{entry_map, entry_size, release_of, deadline_of, volume_of, entry_check, entries_check, column}
@@ -23,7 +22,7 @@ pub record EntryBack (h r d p : ℕ) (bs rest : List ℕ) : Type 0 where
   pub rest_back : drop (entry_size bs) bs ≡ rest
   pub good : (j : ℕ) → GoodJob h r d p → GoodEntry job_check h j bs
 
-same_check : (h j r' d' p' r d p : ℕ) → r' ≡ r → d' ≡ d → p' ≡ p → job_check h j r d p ≡ Passed → job_check h j r' d' p' ≡ Passed
+same_check : (h j r' d' p' r d p : ℕ) → r' ≡ r → d' ≡ d → p' ≡ p → job_check h j r d p ≡ Ok tt → job_check h j r' d' p' ≡ Ok tt
 same_check h j r' d' p' r d p e f g q = rw (e, f, g) q
 
 layout_back : (h r d p : ℕ) (rest : List ℕ) →
@@ -68,7 +67,7 @@ pub record EntriesBack (h : ℕ) (rs ds ps : List ℕ) : Type 0 where
   pub releases : column entry_size release_of (length rs) (entries_bytes h rs ds ps) ≡ rs
   pub deadlines : column entry_size (deadline_of h) (length rs) (entries_bytes h rs ds ps) ≡ ds
   pub volumes : column entry_size volume_of (length rs) (entries_bytes h rs ds ps) ≡ ps
-  pub passed : (n j at : ℕ) → entries_check (entry_check job_check h n) entry_size (length rs) j at (entries_bytes h rs ds ps) ≡ Passed
+  pub passed : (n j at : ℕ) → entries_check (entry_check job_check h n) entry_size (length rs) j at (entries_bytes h rs ds ps) ≡ Ok tt
 
 -- a list's entries are read back, one job after the other
 pub entries_back : (h : ℕ) (rs ds ps : List ℕ) → length ds ≡ length rs → length ps ≡ length rs →
@@ -156,7 +155,7 @@ pub record EntriesAgain (h k : ℕ) (bs : List ℕ) : Type 0 where
   pub good : (i : ℕ) → i < k → GoodAt h k bs i
 
 pub entries_again : (k h n j at : ℕ) (bs : List ℕ) → AreBytes bs →
-    entries_check (entry_check job_check h n) entry_size k j at bs ≡ Passed → EntriesAgain h k bs
+    entries_check (entry_check job_check h n) entry_size k j at bs ≡ Ok tt → EntriesAgain h k bs
 unfolding entries_bytes column
 entries_again zero h n j at bs small e =
     record { bytes = entries_none (entry_check job_check h n) entry_size j at bs e; good = λ i l. absurd (omega arith) }

@@ -1,17 +1,13 @@
 -- 02, card 4: each of the eight maps is read and written as its row says, by the words of `specs/Theorems/EightMaps`.
-use Rattle.std.specs.Prelude.{ℕ, suc, ◌+◌, ◌≤◌, ◌<◌, ◌≡◌, Bool, true, false, List, [], ◌∷◌, ◌++◌, length, get_or, take, drop, eqb}
+use Rattle.std.specs.Prelude.{ℕ, ◌≤◌, ◌<◌, ◌≡◌, Bool, true, false, List, [], ◌∷◌, ◌++◌, length, Err}
 use Rattle.std.proofs.Math.Path.{refl}
 use Rattle.std.proofs.Common.{subst, ◌∙◌, arith, le-leb, ne_eqb, eqb-true}
-use Rattle.std.proofs.Math.Option.{Option, none, some}
 use Rattle.std.proofs.lemmas.Bool.{not-false}
-use Rattle.sched.specs.Checks.{refuse_if, and_then, job_check}
+use Rattle.sched.specs.Checks.{and_then, job_check}
 use Rattle.sched.proofs.Checks.Laws.{then_passes}
-use Rattle.sched.specs.TwoBytes.{two_bytes, word}
-use Rattle.sched.specs.declared.Refusal.TheVariants.{Truncated, UnknownBit, Redundant}
-use Rattle.sched.specs.declared.Checked.{Checked}
-use Rattle.sched.specs.declared.Checked.TheVariants.{Passed, Refused}
+use Rattle.sched.specs.declared.Refusal.TheVariants.{Truncated, UnknownBit}
 use Rattle.list_parts.specs.Layout.{absent_release, absent_deadline, absent_volume, map_byte, entry_length, stands, bytes_if, job_map, entry_bytes}
-use Rattle.list_parts.specs.Entries.{release_of, deadline_of, volume_of, entry_size, known_maps, map_check, whole_check, redundancy_check, fault_check}
+use Rattle.list_parts.specs.Entries.{release_of, deadline_of, volume_of, known_maps, map_check, whole_check, redundancy_check, fault_check}
 use Rattle.list_parts.specs.Entries.{entry_check, entries_check, column}
 use Rattle.list_parts.proofs.Laws.Maps.{known_map}
 use Rattle.list_parts.proofs.Laws.Entry.{map_passes}
@@ -108,10 +104,10 @@ eight_maps m l =
 pub job_has_row : (h r d p : ℕ) → job_map h r d p < length rows
 job_has_row h r d p = (layout_read (stands absent_release r) (stands (absent_deadline h) d) (stands absent_volume p) r d p []).known
 
-pub other_map_refused : (m : ℕ) → length rows ≤ m → (rest : List ℕ) (h n j at : ℕ) → entry_check job_check h n j at (m ∷ rest) ≡ Refused (UnknownBit at)
+pub other_map_refused : (m : ℕ) → length rows ≤ m → (rest : List ℕ) (h n j at : ℕ) → entry_check job_check h n j at (m ∷ rest) ≡ Err (UnknownBit at)
 unfolding entry_check map_check
 other_map_refused m l rest h n j at = rw (ne_eqb (length (m ∷ rest)) 0 (omega arith), le-leb known_maps m l)
 
-pub missing_map_refused : (h n j at : ℕ) → entry_check job_check h n j at [] ≡ Refused (Truncated n)
+pub missing_map_refused : (h n j at : ℕ) → entry_check job_check h n j at [] ≡ Err (Truncated n)
 unfolding entry_check map_check
 missing_map_refused h n j at = refl

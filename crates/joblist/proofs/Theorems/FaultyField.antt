@@ -1,5 +1,5 @@
 -- 02, card 1, "Say which job field is bad": when an entry is refused for its job, and which job and field the reader names.
-use Rattle.std.specs.Prelude.{ℕ, zero, suc, ◌+◌, ◌≤◌, ◌<◌, ◌≡◌, refl, Bool, not, List, [], ◌∷◌, ◌↔◌, length, get_or, drop, leb, ltb, eqb}
+use Rattle.std.specs.Prelude.{ℕ, zero, suc, ◌+◌, ◌≤◌, ◌<◌, ◌≡◌, refl, Bool, not, List, [], ◌∷◌, ◌↔◌, length, get_or, drop, leb, ltb, eqb, Err, Ok}
 use Rattle.std.proofs.Common.{ap, sym, subst, ◌∙◌, inl, inr, arith}
 use Rattle.sched.specs.Checks.{GoodJob, refuse_if, and_then, horizon_check, count_check, length_check, job_check, checked_number, checked_values}
 use Rattle.sched.proofs.Checks.Laws.{job_good, then_fails, then_passes}
@@ -8,8 +8,6 @@ use Rattle.sched.proofs.Theorems.FaultyField.{NamesField, FaultyJob, job_names_f
 use Rattle.sched.proofs.Theorems.RefusesJob.{other_then, other_passed, other_horizon, other_count, other_length, before_then}
 use Rattle.sched.proofs.Theorems.FaultyField.{own_values, job_refused}
 use Rattle.sched.specs.declared.Refusal.TheVariants.{Truncated, UnknownBit, Redundant, LeftOver}
-use Rattle.sched.specs.declared.Checked.{Checked}
-use Rattle.sched.specs.declared.Checked.TheVariants.{Passed, Refused}
 use Rattle.list_parts.specs.Header.{header_length, header_horizon, header_count, header_check}
 use Rattle.list_parts.specs.Layout.{absent_release, absent_deadline, absent_volume, has_release, has_deadline, has_volume, release_at, deadline_at, volume_at}
 use Rattle.list_parts.specs.Entries.{entry_map, entry_size, release_of, deadline_of, volume_of, known_maps, map_check, whole_check, redundant, field_check}
@@ -18,6 +16,7 @@ use Rattle.list_parts.proofs.Laws.Entry.{GoodMap, FreshFields, map_passed, map_p
 use Rattle.list_parts.proofs.Laws.Entry.{redundancy_passes, entry_passed}
 use Rattle.joblist.specs.Reading.{lent_check, behind_header, read_check, list_of}
 use Rattle.joblist.proofs.Laws.Lists.{field_count}
+use Rattle.sched.specs.Refusals.{Checked}
 
 -- The checks of an entry before the job's own give another number
 
@@ -27,15 +26,15 @@ eleven = not_job 11 (inl (omega arith))
 pub other_map : (n at : ℕ) (bs : List ℕ) → RefusesJob (map_check known_maps n at bs) → ⊥
 unfolding map_check
 other_map n at bs =
-    other_if (eqb (length bs) 0) (Truncated n) (refuse_if (leb known_maps (entry_map bs)) (UnknownBit at) Passed) eleven
-    (other_if (leb known_maps (entry_map bs)) (UnknownBit at) Passed (not_job 13 (inl (omega arith))) other_passed)
+    other_if (eqb (length bs) 0) (Truncated n) (refuse_if (leb known_maps (entry_map bs)) (UnknownBit at) (Ok tt)) eleven
+    (other_if (leb known_maps (entry_map bs)) (UnknownBit at) (Ok tt) (not_job 13 (inl (omega arith))) other_passed)
 
 other_field : (stands : Bool) (absent place at : ℕ) (bs : List ℕ) → RefusesJob (field_check stands absent place at bs) → ⊥
 other_field stands absent place at bs =
-    other_if (redundant stands absent (drop place bs)) (Redundant (at + place)) Passed (not_job 14 (inl (omega arith))) other_passed
+    other_if (redundant stands absent (drop place bs)) (Redundant (at + place)) (Ok tt) (not_job 14 (inl (omega arith))) other_passed
 
 pub other_whole : (n : ℕ) (bs : List ℕ) → RefusesJob (whole_check (entry_size bs) n bs) → ⊥
-other_whole n bs = other_if (ltb (length bs) (entry_size bs)) (Truncated n) Passed eleven other_passed
+other_whole n bs = other_if (ltb (length bs) (entry_size bs)) (Truncated n) (Ok tt) eleven other_passed
 
 pub other_redundancy : (h at : ℕ) (bs : List ℕ) → RefusesJob (redundancy_check h at bs) → ⊥
 unfolding redundancy_check
@@ -116,8 +115,8 @@ entry_refuses_job h n j at bs = (λ f. (ready f, (job_refused h j r d p).0 (alon
 
 -- The walk: of the k entries from job j on one is refused, entry i of them
 
-pub other_left : (at : ℕ) (bs : List ℕ) → RefusesJob (refuse_if (not (eqb (length bs) 0)) (LeftOver at) Passed) → ⊥
-other_left at bs = other_if (not (eqb (length bs) 0)) (LeftOver at) Passed (not_job 16 (inr (omega arith, omega arith))) other_passed
+pub other_left : (at : ℕ) (bs : List ℕ) → RefusesJob (refuse_if (not (eqb (length bs) 0)) (LeftOver at) (Ok tt)) → ⊥
+other_left at bs = other_if (not (eqb (length bs) 0)) (LeftOver at) (Ok tt) (not_job 16 (inr (omega arith, omega arith))) other_passed
 
 record Met (k j h : ℕ) (bs : List ℕ) (c : Checked) : Type 0 where
   i : ℕ
@@ -152,7 +151,7 @@ entries_met h n (suc k) j at bs f = go here refl (λ g. entries_met h n k (suc j
     below i first later (suc m) l = later m (omega arith)
 
     go : (c : Checked) → here ≡ c → (RefusesJob rest → Met k (suc j) h (drop (entry_size bs) bs) rest) → Met (suc k) j h bs (and_then here rest)
-    go (Refused x) e later =
+    go (Err x) e later =
         let stops = then_fails here rest x e in
         record {
           i = 0;
@@ -162,7 +161,7 @@ entries_met h n (suc k) j at bs f = go here refl (λ g. entries_met h n k (suc j
           lower = λ m l. absurd (omega arith);
           own = stops ∙ sym e ∙ entry_own h n j at bs (along (stops ∙ sym e) f);
         }
-    go Passed e later =
+    go (Ok tt) e later =
         let m = later (along (then_passes here rest e) f) in
         let first = job_good h j (release_of bs) (deadline_of h bs) (volume_of bs) (entry_passed job_check h n j at bs e).job in
         record {

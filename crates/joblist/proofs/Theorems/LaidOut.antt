@@ -1,6 +1,6 @@
 -- 02, card 4: a list that passes is laid out as its rows say, by the words of `specs/Theorems/LaidOut`.
 use Prim.Native.Nat.{ℕ, zero, suc, ◌+◌, ◌≤◌, ◌<◌}
-use Rattle.std.specs.Prelude.{◌≡◌, refl, get_or, take}
+use Rattle.std.specs.Prelude.{◌≡◌, refl, get_or, take, Err, Ok, Result}
 use Rattle.std.proofs.Math.Path.{ap, sym}
 use Rattle.std.proofs.Common.{subst, ◌∙◌, arith, take_at}
 use mathlib.Core.List.{List, [], ◌∷◌}
@@ -9,10 +9,7 @@ use Rattle.std.proofs.Math.Seq.{drop-drop}
 use Rattle.sched.specs.Jobs.{Jobs, jobs_of, count}
 use Rattle.sched.specs.Checks.{Passes, length_check, check_of, job_check}
 use Rattle.sched.proofs.Checks.Laws.{passed_passes, then_passed}
-use Rattle.sched.specs.declared.Checked.{Checked}
-use Rattle.sched.specs.declared.Checked.TheVariants.{Passed, Refused as Faulty}
 use Rattle.list_parts.specs.Header.{header_length, header_horizon, header_count}
-use Rattle.list_parts.specs.Layout.{absent_release, absent_deadline, absent_volume, job_map}
 use Rattle.list_parts.specs.Entries.{entry_map, release_of, deadline_of, volume_of, entry_size, known_maps, entry_check, entries_check, column}
 use Rattle.list_parts.proofs.Laws.Entry.{GoodMap, GoodEntry, entry_passed}
 use Rattle.list_parts.proofs.Laws.Walk.{entries_first, entries_none}
@@ -22,14 +19,13 @@ use Rattle.joblist.specs.Writing.{spell_check, Writing, written_if, writing, Wri
 use Rattle.joblist.proofs.Laws.RoundTrip.{map_again}
 use Rattle.joblist.proofs.Laws.Input.{read_passed, read_passes}
 use Rattle.joblist.proofs.Laws.Lists.{field_count, list_back, spelling_good}
-use Rattle.joblist.specs.Theorems.EightMaps.{Row, row_of, field_at, ReadBy}
+use Rattle.joblist.specs.Theorems.EightMaps.{row_of, ReadBy}
 use Rattle.joblist.proofs.Theorems.EightMaps.{eight_maps}
 use Rattle.joblist.proofs.Theorems.Handed.{read_list}
 use Rattle.joblist.specs.declared.ListHeader.{ListHeader}
-use Rattle.joblist.specs.declared.ListRead.TheVariants.{Read}
-use Rattle.joblist.specs.declared.ListWritten.{ListWritten}
-use Rattle.joblist.specs.declared.ListWritten.TheVariants.{Written, Refused}
 use Rattle.joblist.specs.Theorems.LaidOut.{row_at, entry_start, JobAt, LaidOut}
+use Rattle.sched.specs.declared.Refusal.{Refusal}
+use Rattle.sched.specs.Refusals.{Checked}
 
 read_known : (bs : List ℕ) → GoodMap known_maps bs → ReadBy (row_of (entry_map bs)) bs
 read_known [] g = absurd (omega (arith, g.some))
@@ -42,7 +38,7 @@ module _ (h : ℕ) (bytes : List ℕ) where
       (get_or (column entry_size volume_of k (drop at bytes)) i 0) bytes (entry_start bytes at i)
 
   -- k entries that pass
-  laid_out : (k j at : ℕ) → at ≤ length bytes → entries_check (entry_check job_check h (length bytes)) entry_size k j at (drop at bytes) ≡ Passed →
+  laid_out : (k j at : ℕ) → at ≤ length bytes → entries_check (entry_check job_check h (length bytes)) entry_size k j at (drop at bytes) ≡ Ok tt →
       ((i : ℕ) → i < k → Job k at i) × (entry_start bytes at k ≡ length bytes)
   unfolding entry_start
   laid_out zero j at l e =
@@ -77,7 +73,7 @@ module _ (h : ℕ) (bytes : List ℕ) where
           (more.0 i (omega arith))
 
 -- where the reader's checks pass, and so for the spelling of a list
-check_laid_out : (bytes : List ℕ) (r d p : ℕ) → read_check bytes r d p ≡ Passed → LaidOut (list_of bytes) bytes
+check_laid_out : (bytes : List ℕ) (r d p : ℕ) → read_check bytes r d p ≡ Ok tt → LaidOut (list_of bytes) bytes
 check_laid_out bytes r d p e =
     let g = read_passed bytes r d p e in
     let all = laid_out (header_horizon bytes) bytes (header_count bytes) 0 header_length g.header.long g.entries in
@@ -93,14 +89,14 @@ spelling_laid_out h q rs ds ps g =
     (check_laid_out (spelling J) n n n (read_passes (spelling J) n n n (spelling_good J n n n g room)))
 
 -- The theorem for `read`: where it takes the bytes, the jobs at the front of the three lists stand in them
-pub read_laid_out : (bytes rs ds ps rs' ds' ps' : List ℕ) (list : ListHeader) → ReadPromise bytes rs ds ps (Read list) rs' ds' ps' →
+pub read_laid_out : (bytes rs ds ps rs' ds' ps' : List ℕ) (list : ListHeader) → ReadPromise bytes rs ds ps (Ok list) rs' ds' ps' →
     LaidOut (jobs_of list.h list.q (take list.count rs') (take list.count ds') (take list.count ps')) bytes
 read_laid_out bytes rs ds ps rs' ds' ps' list m =
-    let l = read_list bytes rs ds ps rs' ds' ps' (Read list) m list refl in
+    let l = read_list bytes rs ds ps rs' ds' ps' (Ok list) m list refl in
     subst (λ (J : Jobs). LaidOut J bytes) (sym l.jobs) (check_laid_out bytes (length rs) (length ds) (length ps) l.passed)
 
 -- The theorem for `write`: the jobs of the list stand in the bytes that it writes
-pub write_laid_out : (h q : ℕ) (rs ds ps out out' : List ℕ) (n : ℕ) → WritePromise (jobs_of h q rs ds ps) out (Written n) out' →
+pub write_laid_out : (h q : ℕ) (rs ds ps out out' : List ℕ) (n : ℕ) → WritePromise (jobs_of h q rs ds ps) out (Ok n) out' →
     LaidOut (jobs_of h q rs ds ps) (take n out')
 unfolding writing
 write_laid_out h q rs ds ps out out' n m = by_check (spell_check J (length out)) refl
@@ -111,17 +107,17 @@ write_laid_out h q rs ds ps out out' n m = by_check (spell_check J (length out))
     writing_by : (c : Checked) → spell_check J (length out) ≡ c → writing J out ≡ written_if c J out
     writing_by c e = ap (λ (x : Checked). written_if x J out) e
 
-    answered : (w : Writing) → writing J out ≡ w → Written n ≡ w.answer
+    answered : (w : Writing) → writing J out ≡ w → Ok n ≡ w.answer
     answered w e = m.same ∙ ap (λ (x : Writing). x.answer) e
 
     by_check : (c : Checked) → spell_check J (length out) ≡ c → LaidOut J (take n out')
-    by_check (Faulty r) e =
-        let x : ◌≡◌ {A = ListWritten} (Written n) (Refused r) = answered _ (writing_by (Faulty r) e) in
+    by_check (Err r) e =
+        let x : ◌≡◌ {A = (Result ℕ Refusal)} (Ok n) (Err r) = answered _ (writing_by (Err r) e) in
         let z : ◌≡◌ {A = ℕ} 0 1 = cc in
         absurd (omega arith)
-    by_check Passed e =
-        let w = writing_by Passed e in
-        let a : Written n ≡ Written (length (spelling J)) = answered _ w in
+    by_check (Ok tt) e =
+        let w = writing_by (Ok tt) e in
+        let a : Ok n ≡ Ok (length (spelling J)) = answered _ w in
         let size : length (spelling J) ≡ n = cc in
         let kept = m.kept ∙ ap (λ (x : Writing). x.out) w in
         let passes = passed_passes J (then_passed (check_of J) (length_check (length out) (length (spelling J))) e).0 in

@@ -1,30 +1,27 @@
 -- 02, card 4: no answer of reader and writer changed, by the words of `specs/Theorems/LengthsAsBefore`.
 use Prim.Native.Nat.{ℕ, zero, suc, ◌+◌}
-use Rattle.std.specs.Prelude.{◌≡◌, length, drop}
+use Rattle.std.specs.Prelude.{◌≡◌, length, drop, Err, Ok}
 use Rattle.std.proofs.Math.Path.{refl, ap}
 use Rattle.std.proofs.Common.{◌∙◌}
 use mathlib.Core.List.{List, ◌∷◌, ◌++◌}
 use Rattle.sched.specs.Jobs.{Jobs}
 use Rattle.sched.specs.Checks.{and_then, job_check}
 use Rattle.sched.proofs.Checks.Laws.{then_same}
-use Rattle.sched.specs.declared.Checked.{Checked}
-use Rattle.sched.specs.declared.Checked.TheVariants.{Passed, Refused as Faulty}
-use Rattle.list_parts.specs.Header.{header_length, header_horizon, header_wake, header_count, header_start, header_check}
-use Rattle.list_parts.specs.Layout.{has_volume, width, volume_at}
-use Rattle.list_parts.specs.Entries.{EntryCheck, entry_map, entry_size, known_maps, release_of, deadline_of, volume_of, map_check, whole_check}
-use Rattle.list_parts.specs.Entries.{redundancy_check, fault_check, entry_check, entries_check, column}
+use Rattle.list_parts.specs.Header.{header_length, header_horizon, header_wake, header_count, header_check}
+use Rattle.list_parts.specs.Entries.{entry_map, entry_size, known_maps, release_of, deadline_of, volume_of, map_check}
+use Rattle.list_parts.specs.Entries.{entry_check, entries_check, column}
 use Rattle.list_parts.proofs.Laws.Maps.{length_is}
 use Rattle.list_parts.proofs.Laws.Entry.{map_passed, entry_passed}
 use Rattle.list_parts.proofs.Laws.Walk.{entries_first}
 use Rattle.joblist.specs.Reading.{lent_check, read_check, list_of, Reading, read_if, reading}
 use Rattle.joblist.proofs.Laws.Input.{read_passed}
 use Rattle.joblist.proofs.Laws.Lists.{same_list}
-use Rattle.joblist.specs.declared.ListRead.TheVariants.{Read, Refused}
 use Rattle.joblist.specs.Theorems.LengthsAsBefore.{size_before, entry_check_before, read_check_before, list_before, read_if_before, reading_before}
+use Rattle.sched.specs.Refusals.{Checked}
 
 -- The theorem
 
-size_same : (h n j at : ℕ) (bs : List ℕ) → entry_check job_check h n j at bs ≡ Passed → entry_size bs ≡ size_before bs
+size_same : (h n j at : ℕ) (bs : List ℕ) → entry_check job_check h n j at bs ≡ Ok tt → entry_size bs ≡ size_before bs
 size_same h n j at bs e = length_is (entry_map bs) (entry_passed job_check h n j at bs e).map.known
 
 entry_same : (h n j at : ℕ) (bs : List ℕ) → entry_check job_check h n j at bs ≡ entry_check_before h n j at bs
@@ -43,7 +40,7 @@ module _ (h n : ℕ) where
       then_same (entry_check job_check h n j at bs) _ rest (λ e. rw (size_same h n j at bs e) (entries_same k (suc j) (at + z) (drop z bs)))
       ∙ ap (λ (c : Checked). and_then c rest) (entry_same h n j at bs)
 
-  column_same : (field : List ℕ → ℕ) (k j at : ℕ) (bs : List ℕ) → entries_check (entry_check job_check h n) entry_size k j at bs ≡ Passed →
+  column_same : (field : List ℕ → ℕ) (k j at : ℕ) (bs : List ℕ) → entries_check (entry_check job_check h n) entry_size k j at bs ≡ Ok tt →
       column entry_size field k bs ≡ column size_before field k bs
   unfolding column
   column_same field zero j at bs e = refl
@@ -59,7 +56,7 @@ check_as_before bytes r d p =
     (entries_same (header_horizon bytes) (length bytes) (header_count bytes) 0 header_length (drop header_length bytes))
 
 -- bytes that are read stand for the same list
-pub list_as_before : (bytes : List ℕ) (r d p : ℕ) → read_check bytes r d p ≡ Passed → list_of bytes ≡ list_before bytes
+pub list_as_before : (bytes : List ℕ) (r d p : ℕ) → read_check bytes r d p ≡ Ok tt → list_of bytes ≡ list_before bytes
 list_as_before bytes r d p e =
     let g = (read_passed bytes r d p e).entries in
     let h = header_horizon bytes in
@@ -78,12 +75,12 @@ reading_as_before bytes rs ds ps =
     handed : Jobs → Reading
     handed J =
         record {
-          answer = Read (record { h = header_horizon bytes; q = header_wake bytes; count = header_count bytes });
+          answer = Ok (record { h = header_horizon bytes; q = header_wake bytes; count = header_count bytes });
           releases = J.releases ++ drop (header_count bytes) rs;
           deadlines = J.deadlines ++ drop (header_count bytes) ds;
           volumes = J.volumes ++ drop (header_count bytes) ps;
         }
 
     by_check : (c : Checked) → read_check bytes (length rs) (length ds) (length ps) ≡ c → read_if c bytes rs ds ps ≡ read_if_before c bytes rs ds ps
-    by_check (Faulty r) e = refl
-    by_check Passed e = ap handed (list_as_before bytes (length rs) (length ds) (length ps) e)
+    by_check (Err r) e = refl
+    by_check (Ok tt) e = ap handed (list_as_before bytes (length rs) (length ds) (length ps) e)

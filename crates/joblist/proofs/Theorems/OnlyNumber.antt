@@ -1,17 +1,16 @@
 -- 02, card 1, "Say which job field is bad": all that the card changed in what the reader answers. What it leaves in the lent lists is the same
 -- as before the card, for every input.
-use Rattle.std.specs.Prelude.{ℕ, zero, suc, ◌+◌, ◌≡◌, refl, not, List, length, drop, eqb}
+use Rattle.std.specs.Prelude.{ℕ, zero, suc, ◌+◌, ◌≡◌, refl, not, List, length, drop, eqb, Err, Ok}
 use Rattle.std.proofs.Common.{sym, subst}
 use Rattle.sched.specs.Checks.{refuse_if, and_then, job_check}
 use Rattle.sched.proofs.Theorems.OnlyNumber.{job_check_before, OnlyNumber, coarse, coarse_number, accepted_same, other_same, then_coarse, job_coarse}
 use Rattle.sched.specs.declared.Refusal.TheVariants.{LeftOver}
-use Rattle.sched.specs.declared.Checked.{Checked}
-use Rattle.sched.specs.declared.Checked.TheVariants.{Passed, Refused as Faulty}
 use Rattle.list_parts.specs.Header.{header_length, header_horizon, header_count, header_check}
 use Rattle.list_parts.specs.Entries.{entry_size, release_of, deadline_of, volume_of, known_maps, map_check, whole_check, redundancy_check, fault_check}
 use Rattle.list_parts.specs.Entries.{entry_check, entries_check}
 use Rattle.joblist.specs.Reading.{lent_check, behind_header, input_check, read_check, Reading, read_if, reading, read_number, read_values}
 use Rattle.joblist.proofs.Theorems.FaultyField.{other_map, other_whole, other_redundancy, other_left, other_header, other_lent}
+use Rattle.sched.specs.Refusals.{Checked}
 
 -- the reader before the card, here to be compared with
 abbrev pub reading_before : List ℕ → List ℕ → List ℕ → List ℕ → Reading
@@ -42,7 +41,7 @@ entry_coarse h n j at bs =
 entries_coarse : (h n k j at : ℕ) (bs : List ℕ) →
     entries_check (entry_check job_check_before h n) entry_size k j at bs ≡ coarse (entries_check (entry_check job_check h n) entry_size k j at bs)
 unfolding entries_check
-entries_coarse h n zero j at bs = other_same (refuse_if (not (eqb (length bs) 0)) (LeftOver at) Passed) (other_left at bs)
+entries_coarse h n zero j at bs = other_same (refuse_if (not (eqb (length bs) 0)) (LeftOver at) (Ok tt)) (other_left at bs)
 entries_coarse h n (suc k) j at bs =
     let next = at + entry_size bs in
     let rest = drop (entry_size bs) bs in
@@ -75,5 +74,5 @@ reading_only_number bytes rs ds ps =
     now = read_check bytes (length rs) (length ds) (length ps)
 
     by : (c : Checked) → SameButNumber (read_if (coarse c) bytes rs ds ps) (read_if c bytes rs ds ps)
-    by Passed = record { answer = accepted_same _; releases = refl; deadlines = refl; volumes = refl }
-    by (Faulty r) = record { answer = coarse_number (Faulty r); releases = refl; deadlines = refl; volumes = refl }
+    by (Ok tt) = record { answer = accepted_same _; releases = refl; deadlines = refl; volumes = refl }
+    by (Err r) = record { answer = coarse_number (Err r); releases = refl; deadlines = refl; volumes = refl }

@@ -1,23 +1,25 @@
 -- `read` meets its contract: the checks before the entries decide, then what fills the three lists.
+use Rattle.std.proofs.Common.{◌≡◌, Err, rules}
 use Rattle.joblist.proofs.Promises.{read_accepted, read_refused, front_refused}
 use Rattle.joblist.proofs.read.Goals as goal
 
-pub returns-in-Passed-fill : goal.returns-in-Passed-fill
-returns-in-Passed-fill c =
+pub returns-in_err-check : goal.returns-in_err-check
+returns-in_err-check c =
     let a = c.args in
-    read_accepted a.bytes.now a.releases.now a.deadlines.now a.volumes.now c.check.result c.check.ensures
-    c.in-Passed.is c.header-list.result c.header-list.ensures _ _ _ c.fill.result c.fill.ensures
-    c.in-Passed-fill.is
+    let told : c.from_residual.result ≡ Err c.in_err-check.field-0.0 = search rules in
+    rw told
+    (front_refused a.bytes.now a.releases.now a.deadlines.now a.volumes.now c.check.result c.check.ensures _ c.in_err-check.was)
 
-pub returns-in-Refused-fill : goal.returns-in-Refused-fill
-returns-in-Refused-fill c =
+pub returns-in_err-fill : goal.returns-in_err-fill
+returns-in_err-fill c =
     let a = c.args in
-    read_refused a.bytes.now a.releases.now a.deadlines.now a.volumes.now c.check.result c.check.ensures
-    c.in-Passed.is c.header-list.result c.header-list.ensures _ _ _ c.fill.result c.fill.ensures _
-    c.in-Refused-fill.is
+    let told : c.from_residual-in_err-fill.result ≡ Err c.in_err-fill.field-0.0 = search rules in
+    rw told
+    (read_refused a.bytes.now a.releases.now a.deadlines.now a.volumes.now c.check.result c.check.ensures c.in_ok-check.was
+    c.header-list.result c.header-list.ensures _ _ _ c.fill.result c.fill.ensures _ c.in_err-fill.was)
 
-pub returns-in-Refused : goal.returns-in-Refused
-returns-in-Refused c =
+pub returns : goal.returns
+returns c =
     let a = c.args in
-    front_refused a.bytes.now a.releases.now a.deadlines.now a.volumes.now c.check.result c.check.ensures _
-    c.in-Refused.is
+    read_accepted a.bytes.now a.releases.now a.deadlines.now a.volumes.now c.check.result c.check.ensures c.in_ok-check.was
+    c.header-list.result c.header-list.ensures _ _ _ c.fill.result c.fill.ensures c.in_ok-fill.was

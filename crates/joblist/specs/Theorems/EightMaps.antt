@@ -1,16 +1,15 @@
 -- The eight maps of 01, "Job list bytes", as a table of eight rows that can be ticked off, and that the table is the whole layout of an entry,
 -- for the reader and for the writer; `LaidOut` puts entries together. `read_check` and `list_of`, by which `read` promises, are made of `entry_check`,
 -- `entries_check` and `column`; `spelling`, by which `write` promises, of `entry_bytes`.
-use Rattle.std.specs.Prelude.{ℕ, suc, ◌+◌, ◌≡◌, List, [], ◌∷◌, length, get_or, take, drop, eqb}
+use Rattle.std.specs.Prelude.{ℕ, suc, ◌+◌, ◌≡◌, List, [], ◌∷◌, length, get_or, take, drop, eqb, Ok}
 use Rattle.std.proofs.Math.Option.{Option, none, some}
 use Rattle.sched.specs.Checks.{refuse_if, and_then, job_check}
 use Rattle.sched.specs.TwoBytes.{two_bytes, word}
 use Rattle.sched.specs.declared.Refusal.TheVariants.{Redundant}
-use Rattle.sched.specs.declared.Checked.{Checked}
-use Rattle.sched.specs.declared.Checked.TheVariants.{Passed}
-use Rattle.list_parts.specs.Layout.{absent_release, absent_deadline, absent_volume, entry_length, stands, job_map, entry_bytes}
+use Rattle.list_parts.specs.Layout.{absent_release, absent_deadline, absent_volume, entry_length, job_map, entry_bytes}
 use Rattle.list_parts.specs.Entries.{release_of, deadline_of, volume_of, entry_size, whole_check}
 use Rattle.list_parts.specs.Entries.{entry_check, entries_check, column}
+use Rattle.sched.specs.Refusals.{Checked}
 
 -- A row: a map; for release, deadline and volume, two bytes each, low byte first, the offset from the map byte, if they stand; and the length of the
 -- entry, which is what `entry_length` says
@@ -46,8 +45,8 @@ field_at none absent bs = absent
 
 -- 14 for a field: it stands with its absent value; its place is the offset of the field in the input
 abbrev pub redundant_at : Option ℕ → ℕ → ℕ → List ℕ → Checked
-redundant_at (some offset) absent at bs = refuse_if (eqb (word (drop offset bs)) absent) (Redundant (at + offset)) Passed
-redundant_at none absent at bs = Passed
+redundant_at (some offset) absent at bs = refuse_if (eqb (word (drop offset bs)) absent) (Redundant (at + offset)) (Ok tt)
+redundant_at none absent at bs = Ok tt
 
 -- the checks of job j, whose entry starts at offset `at` of an input of n bytes: 11 for the fields, 14 in field order, then the job
 abbrev pub check_by : Row → ℕ → ℕ → ℕ → ℕ → List ℕ → Checked

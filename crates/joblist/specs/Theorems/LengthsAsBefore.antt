@@ -1,18 +1,16 @@
 -- With the length of an entry as eight cases no answer changes: every input is checked and read as it was when the length was counted from the fields
 -- that stand. The checks and the reading by the counted length stand in this file alone. What is written never named the length.
 use Prim.Native.Nat.{ℕ, ◌+◌}
-use Rattle.std.specs.Prelude.{length, drop}
+use Rattle.std.specs.Prelude.{length, drop, Err, Ok}
 use mathlib.Core.List.{List, ◌++◌}
 use Rattle.sched.specs.Jobs.{Jobs}
 use Rattle.sched.specs.Checks.{and_then, job_check}
-use Rattle.sched.specs.declared.Checked.{Checked}
-use Rattle.sched.specs.declared.Checked.TheVariants.{Passed, Refused as Faulty}
 use Rattle.list_parts.specs.Header.{header_length, header_horizon, header_wake, header_count, header_start, header_check}
 use Rattle.list_parts.specs.Layout.{has_volume, width, volume_at}
 use Rattle.list_parts.specs.Entries.{EntryCheck, entry_map, known_maps, release_of, deadline_of, volume_of, map_check, whole_check}
 use Rattle.list_parts.specs.Entries.{redundancy_check, fault_check, entries_check, column}
-use Rattle.joblist.specs.Reading.{lent_check, Reading, reading}
-use Rattle.joblist.specs.declared.ListRead.TheVariants.{Read, Refused}
+use Rattle.joblist.specs.Reading.{lent_check, Reading}
+use Rattle.sched.specs.Refusals.{Checked}
 
 -- Before
 
@@ -43,14 +41,14 @@ list_before bytes =
     }
 
 abbrev pub read_if_before : Checked → List ℕ → List ℕ → List ℕ → List ℕ → Reading
-read_if_before Passed bytes rs ds ps =
+read_if_before (Ok tt) bytes rs ds ps =
     record {
-      answer = Read (record { h = header_horizon bytes; q = header_wake bytes; count = header_count bytes });
+      answer = Ok (record { h = header_horizon bytes; q = header_wake bytes; count = header_count bytes });
       releases = (list_before bytes).releases ++ drop (header_count bytes) rs;
       deadlines = (list_before bytes).deadlines ++ drop (header_count bytes) ds;
       volumes = (list_before bytes).volumes ++ drop (header_count bytes) ps;
     }
-read_if_before (Faulty r) bytes rs ds ps = record { answer = Refused r; releases = rs; deadlines = ds; volumes = ps }
+read_if_before (Err r) bytes rs ds ps = record { answer = Err r; releases = rs; deadlines = ds; volumes = ps }
 
 abbrev pub reading_before : List ℕ → List ℕ → List ℕ → List ℕ → Reading
 reading_before bytes rs ds ps = read_if_before (read_check_before bytes (length rs) (length ds) (length ps)) bytes rs ds ps

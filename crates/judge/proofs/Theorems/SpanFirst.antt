@@ -1,9 +1,9 @@
 -- 02, card 3: which answers the order of the two checks changes, by the words of `specs/Theorems/SpanFirst`.
 use Prim.Native.Nat.{ℕ, zero, suc, ◌+◌, ◌≤◌, ◌<◌}
-use Rattle.std.specs.Prelude.{◌≡◌, Bool, true, false, not, ◌&&◌, ◌||◌, ◌↔◌, ◌⊎◌, length, get_or, leb, ltb, eqb}
+use Rattle.std.specs.Prelude.{◌≡◌, Bool, true, false, not, ◌&&◌, ◌||◌, ◌↔◌, ◌⊎◌, length, get_or, leb, ltb, eqb, Err, Ok, Result}
 use Rattle.std.proofs.Math.Path.{refl, ap}
 use Rattle.std.proofs.Common.{sym, ◌∙◌, arith, le-leb, lt-ltb, leb-true, ltb-true, ltb-false}
-use mathlib.Core.List.{List, [], ◌∷◌}
+use mathlib.Core.List.{List}
 use Rattle.std.proofs.Math.Logic.{inl, inr}
 use Rattle.std.proofs.Math.Decide.{ℕ_discrete}
 use Rattle.std.proofs.lemmas.Bool.{lt-leb}
@@ -12,22 +12,21 @@ use Rattle.sched.proofs.Bounded.Laws.{lt_suc, by_bool, and_true, or_true}
 use Rattle.sched.specs.Jobs.{Jobs, count, release, deadline, volume}
 use Rattle.sched.specs.Slots.{times, idle, asleep}
 use Rattle.sched.specs.Energy.{table_figures}
-use Rattle.sched.specs.Checks.{Passes, refuse_if, and_then, length_check, check_of}
+use Rattle.sched.specs.Checks.{refuse_if, and_then, length_check, check_of}
 use Rattle.sched.proofs.Checks.Laws.{then_fails, then_passes, passed_passes, passes_passed, length_good, length_passes, refused_not_passed}
-use Rattle.sched.specs.declared.Checked.{Checked}
-use Rattle.sched.specs.declared.Checked.TheVariants.{Passed, Refused as Faulty}
 use Rattle.sched.specs.declared.Refusal.{Refusal}
 use Rattle.sched.specs.declared.Refusal.TheVariants.{BadByte, TooOften, OutOfSpan}
-use Rattle.judge.specs.declared.Judged.{Judged}
 use Rattle.judge.specs.Faults.{SlotCheck, slot_fault, spent_in, slot_check, slots_from, rare_from, faults_by}
 use Rattle.judge.proofs.Faults.Laws.{early_refused, late_refused}
 use Rattle.judge.specs.Verdict.{accepts, judge_check_by, judged, judged_number, judged_values}
 use Rattle.judge.proofs.Verdict.Laws.{faults_decide}
 use Rattle.judge.specs.Theorems.SpanFirst.{slot_fault_before, judged_before, BothFaults, LowestHasBoth, Changes, SpanTold}
+use Rattle.sched.specs.declared.Figures.{Figures}
+use Rattle.sched.specs.Refusals.{Checked}
 
 -- two tests in either order: both hold, or the answer is the same
 in_either_order : (unknown outside often : Bool) (x y z : Refusal) → ((outside ≡ true) × (often ≡ true)) ⊎
-    (refuse_if unknown x (refuse_if often z (refuse_if outside y Passed)) ≡ refuse_if unknown x (refuse_if outside y (refuse_if often z Passed)))
+    (refuse_if unknown x (refuse_if often z (refuse_if outside y (Ok tt))) ≡ refuse_if unknown x (refuse_if outside y (refuse_if often z (Ok tt))))
 in_either_order unknown true true x y z = inl (refl, refl)
 in_either_order unknown true false x y z = inr refl
 in_either_order unknown false often x y z = inr refl
@@ -77,60 +76,60 @@ module _ (J : Jobs) (slots : List ℕ) where
             })
         go (inr e) = inr e
 
-    both_before : BothFaults J slots t → slot_by slot_fault_before t ≡ Faulty (TooOften t)
+    both_before : BothFaults J slots t → slot_by slot_fault_before t ≡ Err (TooOften t)
     both_before b =
         simp (lt-leb (count J) byte b.job, lt-ltb byte (count J) b.job, le-leb (volume J byte) (times byte (take t slots)) b.spent)
 
-    both_now : BothFaults J slots t → slot_by slot_fault t ≡ Faulty (OutOfSpan t)
+    both_now : BothFaults J slots t → slot_by slot_fault t ≡ Err (OutOfSpan t)
     both_now b = sym (go b.outside)
       where
         spent : Bool
         spent = spent_in J.volumes (take t slots) byte
 
-        early : t < release J byte → Faulty (OutOfSpan t) ≡ slot_by slot_fault t
+        early : t < release J byte → Err (OutOfSpan t) ≡ slot_by slot_fault t
         early = early_refused (count J) (release J byte) (deadline J byte) t byte spent b.job
 
-        go : (t < release J byte) ⊎ (deadline J byte ≤ t) → Faulty (OutOfSpan t) ≡ slot_by slot_fault t
+        go : (t < release J byte) ⊎ (deadline J byte ≤ t) → Err (OutOfSpan t) ≡ slot_by slot_fault t
         go (inl e) = early e
         go (inr e) =
             by_bool (ltb t (release J byte)) (λ y. early (ltb-true t (release J byte) y))
             (λ y. late_refused (count J) (release J byte) (deadline J byte) t byte spent b.job (ltb-false t (release J byte) y) e)
 
     -- a slot that passes in one order passes in the other
-    pub faulty_as_before : slot_by slot_fault_before t ≡ Passed ↔ slot_by slot_fault t ≡ Passed
+    pub faulty_as_before : slot_by slot_fault_before t ≡ (Ok tt) ↔ slot_by slot_fault t ≡ Ok tt
     faulty_as_before = (λ e. now e both_or_same, λ e. before e both_or_same)
       where
-        now : slot_by slot_fault_before t ≡ Passed → BothFaults J slots t ⊎ (slot_by slot_fault_before t ≡ slot_by slot_fault t) → slot_by slot_fault t ≡ Passed
+        now : slot_by slot_fault_before t ≡ Ok tt → BothFaults J slots t ⊎ (slot_by slot_fault_before t ≡ slot_by slot_fault t) → slot_by slot_fault t ≡ Ok tt
         now e (inl b) = refused_not_passed (TooOften t) (sym (both_before b) ∙ e)
         now e (inr same) = sym same ∙ e
 
-        before : slot_by slot_fault t ≡ Passed → BothFaults J slots t ⊎ (slot_by slot_fault_before t ≡ slot_by slot_fault t) → slot_by slot_fault_before t ≡ Passed
+        before : slot_by slot_fault t ≡ Ok tt → BothFaults J slots t ⊎ (slot_by slot_fault_before t ≡ slot_by slot_fault t) → slot_by slot_fault_before t ≡ Ok tt
         before e (inl b) = refused_not_passed (OutOfSpan t) (sym (both_now b) ∙ e)
         before e (inr same) = same ∙ e
 
   -- All slots
 
   -- the lowest that does not pass is told
-  lowest_told : (fault : SlotCheck) (at : ℕ) (r : Refusal) (k t : ℕ) → t ≤ at → at < t + k → ((i : ℕ) → i < at → slot_by fault i ≡ Passed) →
-      slot_by fault at ≡ Faulty r → slots_by fault k t ≡ Faulty r
+  lowest_told : (fault : SlotCheck) (at : ℕ) (r : Refusal) (k t : ℕ) → t ≤ at → at < t + k → ((i : ℕ) → i < at → slot_by fault i ≡ Ok tt) →
+      slot_by fault at ≡ Err r → slots_by fault k t ≡ Err r
   unfolding slots_from
   lowest_told fault at r zero t from to lower here = absurd (omega arith)
   lowest_told fault at r (suc k) t from to lower here = go (ℕ_discrete t at) (λ a b. lowest_told fault at r k (suc t) a b lower here)
     where
-      go : Dec (t ≡ at) → (suc t ≤ at → at < suc t + k → slots_by fault k (suc t) ≡ Faulty r) → slots_by fault (suc k) t ≡ Faulty r
+      go : Dec (t ≡ at) → (suc t ≤ at → at < suc t + k → slots_by fault k (suc t) ≡ Err r) → slots_by fault (suc k) t ≡ Err r
       go (yes q) later = then_fails (slot_by fault t) (slots_by fault k (suc t)) r (rw q here)
       go (no n) later =
           then_passes (slot_by fault t) (slots_by fault k (suc t)) (lower t (omega arith)) ∙ later (omega arith) (omega arith)
 
-  faults_told : (fault : SlotCheck) (at : ℕ) (r : Refusal) → at < length slots → ((i : ℕ) → i < at → slot_by fault i ≡ Passed) →
-      slot_by fault at ≡ Faulty r → faults_of fault ≡ Faulty r
+  faults_told : (fault : SlotCheck) (at : ℕ) (r : Refusal) → at < length slots → ((i : ℕ) → i < at → slot_by fault i ≡ Ok tt) →
+      slot_by fault at ≡ Err r → faults_of fault ≡ Err r
   unfolding faults_by
   faults_told fault at r l lower here =
       then_fails (slots_by fault (length slots) 0) (rare_from (count J) 0 (λ j. times j slots) J.volumes) r
       (lowest_told fault at r (length slots) 0 (omega arith) (omega arith) lower here)
 
   -- the k slots from t on, where all below t pass
-  lowest_or_same : (k t : ℕ) → t + k ≡ length slots → ((i : ℕ) → i < t → slot_by slot_fault i ≡ Passed) →
+  lowest_or_same : (k t : ℕ) → t + k ≡ length slots → ((i : ℕ) → i < t → slot_by slot_fault i ≡ Ok tt) →
       LowestHasBoth J slots ⊎ (slots_by slot_fault_before k t ≡ slots_by slot_fault k t)
   unfolding slots_from
   lowest_or_same zero t all lower = inr refl
@@ -142,25 +141,25 @@ module _ (J : Jobs) (slots : List ℕ) where
       is : Checked
       is = slots_by slot_fault k (suc t)
 
-      below : slot_by slot_fault t ≡ Passed → (i : ℕ) → i < suc t → slot_by slot_fault i ≡ Passed
+      below : slot_by slot_fault t ≡ Ok tt → (i : ℕ) → i < suc t → slot_by slot_fault i ≡ Ok tt
       below e i l = by (lt_suc l)
         where
-          by : (i < t) ⊎ (i ≡ t) → slot_by slot_fault i ≡ Passed
+          by : (i < t) ⊎ (i ≡ t) → slot_by slot_fault i ≡ Ok tt
           by (inl m) = lower i m
           by (inr q) = rw q e
 
-      later : slot_by slot_fault_before t ≡ slot_by slot_fault t → slot_by slot_fault t ≡ Passed → LowestHasBoth J slots ⊎ (was ≡ is) →
+      later : slot_by slot_fault_before t ≡ slot_by slot_fault t → slot_by slot_fault t ≡ Ok tt → LowestHasBoth J slots ⊎ (was ≡ is) →
           LowestHasBoth J slots ⊎ (slots_by slot_fault_before (suc k) t ≡ slots_by slot_fault (suc k) t)
       later same e (inl w) = inl w
       later same e (inr q) =
           inr (then_passes (slot_by slot_fault_before t) was (same ∙ e) ∙ q ∙ sym (then_passes (slot_by slot_fault t) is e))
 
       at : BothFaults J slots t ⊎ (slot_by slot_fault_before t ≡ slot_by slot_fault t) → (c : Checked) → slot_by slot_fault t ≡ c →
-          (slot_by slot_fault t ≡ Passed → LowestHasBoth J slots ⊎ (was ≡ is)) →
+          (slot_by slot_fault t ≡ Ok tt → LowestHasBoth J slots ⊎ (was ≡ is)) →
           LowestHasBoth J slots ⊎ (slots_by slot_fault_before (suc k) t ≡ slots_by slot_fault (suc k) t)
       at (inl b) c e rest = inl (record { at = t; within = omega arith; lower = lower; both = b })
-      at (inr same) Passed e rest = later same e (rest e)
-      at (inr same) (Faulty r) e rest =
+      at (inr same) (Ok tt) e rest = later same e (rest e)
+      at (inr same) (Err r) e rest =
           inr (then_fails (slot_by slot_fault_before t) was r (same ∙ e) ∙ sym (then_fails (slot_by slot_fault t) is r e))
 
   faults_or_same : LowestHasBoth J slots ⊎ (faults_of slot_fault_before ≡ faults_of slot_fault)
@@ -185,7 +184,7 @@ module _ (J : Jobs) (table : List ℕ) where
       let t = w.lowest.at in
       let before = faults_decide slot_fault_before J table e f ∙ faults_told J slots slot_fault_before t (TooOften t) w.lowest.within (λ i l. (faulty_as_before J slots i).1 (w.lowest.lower i l)) (both_before J slots t w.lowest.both) in
       let now = faults_decide slot_fault J table e f ∙ faults_told J slots slot_fault t (OutOfSpan t) w.lowest.within w.lowest.lower (both_now J slots t w.lowest.both) in
-      let answer : Checked → Judged = λ c. accepts c (table_figures J slots) in
+      let answer : Checked → (Result Figures Refusal) = λ c. accepts c (table_figures J slots) in
       record {
         was = ap (λ (c : Checked). judged_number (answer c)) before;
         is = ap (λ (c : Checked). judged_number (answer c)) now;
@@ -212,19 +211,19 @@ module _ (J : Jobs) (table : List ℕ) where
       same : judge_check_by slot_fault_before J table ≡ judge_check_by slot_fault J table → Same
       same e = ap (λ (c : Checked). accepts c (table_figures J slots)) e
 
-      reached : check_of J ≡ Passed → long ≡ Passed → LowestHasBoth J slots ⊎ (faults_of J slots slot_fault_before ≡ faults_of J slots slot_fault) → Changes J table ⊎ Same
+      reached : check_of J ≡ Ok tt → long ≡ Ok tt → LowestHasBoth J slots ⊎ (faults_of J slots slot_fault_before ≡ faults_of J slots slot_fault) → Changes J table ⊎ Same
       reached e f (inl w) = inl (record { list = passed_passes J e; long = length_good (length table) J.horizon f; lowest = w })
       reached e f (inr q) = inr (same (faults_decide slot_fault_before J table e f ∙ q ∙ sym (faults_decide slot_fault J table e f)))
 
-      by_length : check_of J ≡ Passed → (c : Checked) → long ≡ c → Changes J table ⊎ Same
-      by_length e Passed f = reached e f (faults_or_same J slots)
-      by_length e (Faulty r) f =
-          let short : (fault : SlotCheck) → judge_check_by fault J table ≡ Faulty r = λ fault. then_passes (check_of J) (behind fault) e ∙ then_fails long (faults_of J slots fault) r f in
+      by_length : check_of J ≡ Ok tt → (c : Checked) → long ≡ c → Changes J table ⊎ Same
+      by_length e (Ok tt) f = reached e f (faults_or_same J slots)
+      by_length e (Err r) f =
+          let short : (fault : SlotCheck) → judge_check_by fault J table ≡ Err r = λ fault. then_passes (check_of J) (behind fault) e ∙ then_fails long (faults_of J slots fault) r f in
           inr (same (short slot_fault_before ∙ sym (short slot_fault)))
 
       by_list : (c : Checked) → check_of J ≡ c → Changes J table ⊎ Same
-      by_list Passed e = by_length e long refl
-      by_list (Faulty r) e =
+      by_list (Ok tt) e = by_length e long refl
+      by_list (Err r) e =
           inr (same (then_fails (check_of J) (behind slot_fault_before) r e ∙ sym (then_fails (check_of J) (behind slot_fault) r e)))
 
   -- "the answers that change are exactly those": both directions

@@ -1,16 +1,15 @@
 -- The checks of an entry, one by one.
-use Rattle.std.specs.Prelude.{ℕ, ◌≤◌, ◌<◌, ◌≡◌, Bool, false, List, length, drop, leb, ltb, eqb}
+use Rattle.std.specs.Prelude.{ℕ, ◌≤◌, ◌<◌, ◌≡◌, Bool, false, List, length, drop, leb, ltb, eqb, Ok}
 use Rattle.std.proofs.Common.{◌∙◌, arith, leb-false, ltb-false, le-ltb, ne_eqb}
 use Rattle.std.proofs.lemmas.Bool.{eqb-false, lt-leb}
 use Rattle.sched.specs.Checks.{JobCheck, refuse_if, and_then}
 use Rattle.sched.proofs.Checks.Laws.{refuse_passed, then_passed, then_passes}
 use Rattle.sched.specs.declared.Refusal.TheVariants.{Truncated, UnknownBit}
-use Rattle.sched.specs.declared.Checked.{Checked}
-use Rattle.sched.specs.declared.Checked.TheVariants.{Passed}
 use Rattle.list_parts.specs.Layout.{absent_release, absent_deadline, absent_volume, has_release, has_deadline, has_volume, release_at, deadline_at}
 use Rattle.list_parts.specs.Layout.{volume_at}
 use Rattle.list_parts.specs.Entries.{entry_map, entry_size, known_maps, map_check, whole_check, redundant, field_check, redundancy_check, fault_check}
 use Rattle.list_parts.specs.Entries.{entry_check}
+use Rattle.sched.specs.Refusals.{Checked}
 
 -- 11 for the map, and 13
 
@@ -18,34 +17,34 @@ pub record GoodMap (maps : ℕ) (bs : List ℕ) : Type 0 where
   pub some : 1 ≤ length bs
   pub known : entry_map bs < maps
 
-pub map_passed : (maps n at : ℕ) (bs : List ℕ) → map_check maps n at bs ≡ Passed → GoodMap maps bs
+pub map_passed : (maps n at : ℕ) (bs : List ℕ) → map_check maps n at bs ≡ Ok tt → GoodMap maps bs
 unfolding map_check
 map_passed maps n at bs e =
-    let known : Checked = refuse_if (leb maps (entry_map bs)) (UnknownBit at) Passed in
+    let known : Checked = refuse_if (leb maps (entry_map bs)) (UnknownBit at) (Ok tt) in
     let a = refuse_passed (eqb (length bs) 0) (Truncated n) known e in
-    let b = refuse_passed (leb maps (entry_map bs)) (UnknownBit at) Passed a.1 in
+    let b = refuse_passed (leb maps (entry_map bs)) (UnknownBit at) (Ok tt) a.1 in
     record { some = positive (eqb-false (length bs) 0 a.0); known = leb-false maps (entry_map bs) b.0 }
   where
     positive : (length bs ≡ 0 → ⊥) → 1 ≤ length bs
     positive f = omega arith
 
-pub map_passes : (maps n at : ℕ) (bs : List ℕ) → GoodMap maps bs → map_check maps n at bs ≡ Passed
+pub map_passes : (maps n at : ℕ) (bs : List ℕ) → GoodMap maps bs → map_check maps n at bs ≡ Ok tt
 unfolding map_check
 map_passes maps n at bs g = simp (ne_eqb (length bs) 0 (omega (arith, g.some)), lt-leb maps (entry_map bs) g.known)
 
 -- 11 for the fields
 
-pub whole_passed : (size n : ℕ) (bs : List ℕ) → whole_check size n bs ≡ Passed → size ≤ length bs
-whole_passed size n bs e = ltb-false (length bs) size (refuse_passed (ltb (length bs) size) (Truncated n) Passed e).0
+pub whole_passed : (size n : ℕ) (bs : List ℕ) → whole_check size n bs ≡ Ok tt → size ≤ length bs
+whole_passed size n bs e = ltb-false (length bs) size (refuse_passed (ltb (length bs) size) (Truncated n) (Ok tt) e).0
 
-pub whole_passes : (size n : ℕ) (bs : List ℕ) → size ≤ length bs → whole_check size n bs ≡ Passed
+pub whole_passes : (size n : ℕ) (bs : List ℕ) → size ≤ length bs → whole_check size n bs ≡ Ok tt
 whole_passes size n bs l = simp (le-ltb (length bs) size l)
 
 -- 14
 
-pub field_passed : (stands : Bool) (absent place at : ℕ) (bs : List ℕ) → field_check stands absent place at bs ≡ Passed →
+pub field_passed : (stands : Bool) (absent place at : ℕ) (bs : List ℕ) → field_check stands absent place at bs ≡ Ok tt →
     redundant stands absent (drop place bs) ≡ false
-field_passed stands absent place at bs e = (refuse_passed (redundant stands absent (drop place bs)) _ Passed e).0
+field_passed stands absent place at bs e = (refuse_passed (redundant stands absent (drop place bs)) _ (Ok tt) e).0
 
 -- no field stands with its absent value
 pub record FreshFields (h : ℕ) (bs : List ℕ) : Type 0 where
@@ -53,7 +52,7 @@ pub record FreshFields (h : ℕ) (bs : List ℕ) : Type 0 where
   pub deadline : redundant (has_deadline (entry_map bs)) (absent_deadline h) (drop (deadline_at (entry_map bs)) bs) ≡ false
   pub volume : redundant (has_volume (entry_map bs)) absent_volume (drop (volume_at (entry_map bs)) bs) ≡ false
 
-pub redundancy_passed : (h at : ℕ) (bs : List ℕ) → redundancy_check h at bs ≡ Passed → FreshFields h bs
+pub redundancy_passed : (h at : ℕ) (bs : List ℕ) → redundancy_check h at bs ≡ Ok tt → FreshFields h bs
 unfolding redundancy_check
 redundancy_passed h at bs e =
     let map = entry_map bs in
@@ -68,7 +67,7 @@ redundancy_passed h at bs e =
       volume = field_passed (has_volume map) absent_volume (volume_at map) at bs b.1;
     }
 
-pub redundancy_passes : (h at : ℕ) (bs : List ℕ) → FreshFields h bs → redundancy_check h at bs ≡ Passed
+pub redundancy_passes : (h at : ℕ) (bs : List ℕ) → FreshFields h bs → redundancy_check h at bs ≡ Ok tt
 unfolding redundancy_check
 redundancy_passes h at bs g = simp (g.release, g.deadline, g.volume)
 
@@ -79,7 +78,7 @@ pub record GoodEntry (check : JobCheck) (h j : ℕ) (bs : List ℕ) : Type 0 whe
   pub map : GoodMap known_maps bs
   pub whole : entry_size bs ≤ length bs
   pub fields : FreshFields h bs
-  pub job : fault_check check h j bs ≡ Passed
+  pub job : fault_check check h j bs ≡ Ok tt
 
 module _ (check : JobCheck) (h n j at : ℕ) (bs : List ℕ) where
   abbrev map : Checked
@@ -94,7 +93,7 @@ module _ (check : JobCheck) (h n j at : ℕ) (bs : List ℕ) where
   abbrev job : Checked
   job = fault_check check h j bs
 
-  pub entry_passed : entry_check check h n j at bs ≡ Passed → GoodEntry check h j bs
+  pub entry_passed : entry_check check h n j at bs ≡ Ok tt → GoodEntry check h j bs
   unfolding entry_check
   entry_passed e =
       let a = then_passed map (and_then whole (and_then fresh job)) e in
@@ -107,7 +106,7 @@ module _ (check : JobCheck) (h n j at : ℕ) (bs : List ℕ) where
         job = c.1;
       }
 
-  pub entry_passes : GoodEntry check h j bs → entry_check check h n j at bs ≡ Passed
+  pub entry_passes : GoodEntry check h j bs → entry_check check h n j at bs ≡ Ok tt
   unfolding entry_check
   entry_passes g =
       then_passes map (and_then whole (and_then fresh job)) (map_passes known_maps n at bs g.map)

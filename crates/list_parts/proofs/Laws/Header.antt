@@ -1,12 +1,11 @@
 -- The header: its checks one by one, and its bytes written and read back, and read and written again.
-use Rattle.std.specs.Prelude.{ℕ, ◌+◌, ◌*◌, ◌≤◌, ◌≡◌, refl, Bool, false, List, [], ◌∷◌, ◌++◌, length, drop, ltb}
+use Rattle.std.specs.Prelude.{ℕ, ◌+◌, ◌*◌, ◌≤◌, ◌≡◌, refl, Bool, false, List, [], ◌∷◌, ◌++◌, length, drop, ltb, Ok}
 use Rattle.std.proofs.Common.{ap, sym, ◌∙◌, arith, ltb-false, le-ltb, ne_eqb}
 use Rattle.sched.specs.TwoBytes.{AreBytes, two_bytes}
 use Rattle.sched.proofs.TwoBytes.Laws.{word_again}
 use Rattle.sched.specs.Checks.{and_then, horizon_check, count_check}
 use Rattle.sched.proofs.Checks.Laws.{refuse_passed, then_passed, horizon_good}
 use Rattle.sched.specs.declared.Refusal.TheVariants.{Truncated, OutOfRange}
-use Rattle.sched.specs.declared.Checked.TheVariants.{Passed}
 use Rattle.list_parts.specs.Header.{header_length, header_horizon, header_wake, count_in, start_in, count_byte, header_count, header_start, header_check}
 
 -- The checks
@@ -17,13 +16,13 @@ pub record GoodHeader (bytes : List ℕ) : Type 0 where
   pub high : header_horizon bytes ≤ 4096
   pub few : header_count bytes ≤ 64
 
-pub header_passed : (bytes : List ℕ) → header_check bytes ≡ Passed → GoodHeader bytes
+pub header_passed : (bytes : List ℕ) → header_check bytes ≡ Ok tt → GoodHeader bytes
 header_passed bytes e =
     let h = header_horizon bytes in
     let n = header_count bytes in
     let p₀ = refuse_passed (ltb (length bytes) header_length) (Truncated (length bytes)) (and_then (horizon_check h) (count_check n)) e in
     let p₁ = then_passed (horizon_check h) (count_check n) p₀.1 in
-    let p₂ = refuse_passed (ltb 64 n) (OutOfRange 4) Passed p₁.1 in
+    let p₂ = refuse_passed (ltb 64 n) (OutOfRange 4) (Ok tt) p₁.1 in
     record {
       long = ltb-false (length bytes) header_length p₀.0;
       low = (horizon_good h p₁.0).0;
@@ -31,7 +30,7 @@ header_passed bytes e =
       few = ltb-false 64 n p₂.0;
     }
 
-pub header_passes : (bytes : List ℕ) → GoodHeader bytes → header_check bytes ≡ Passed
+pub header_passes : (bytes : List ℕ) → GoodHeader bytes → header_check bytes ≡ Ok tt
 header_passes bytes g =
     simp (
       le-ltb (length bytes) header_length g.long,

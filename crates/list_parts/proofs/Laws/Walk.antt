@@ -1,6 +1,6 @@
 -- The walk over entries, for every check and length of an entry: step by step, and as a loop that stands at a job sees it.
 use Prim.Native.Nat.{ℕ, zero, suc, ◌+◌, ◌-◌, ◌≤◌, ◌<◌}
-use Rattle.std.specs.Prelude.{◌≡◌, take, drop, set}
+use Rattle.std.specs.Prelude.{◌≡◌, take, drop, set, Err, Ok}
 use Rattle.std.proofs.Math.Path.{refl, ap, sym}
 use Rattle.std.proofs.Common.{◌∙◌, length-set}
 use mathlib.Core.List.{List, [], ◌∷◌}
@@ -14,23 +14,22 @@ use Rattle.sched.specs.Checks.{and_then}
 use Rattle.sched.proofs.Checks.Laws.{refuse_passed, then_passed, then_fails, then_passes}
 use Rattle.sched.specs.declared.Refusal.{Refusal}
 use Rattle.sched.specs.declared.Refusal.TheVariants.{LeftOver}
-use Rattle.sched.specs.declared.Checked.{Checked}
-use Rattle.sched.specs.declared.Checked.TheVariants.{Passed, Refused}
 use Rattle.list_parts.specs.Header.{header_length}
 use Rattle.list_parts.specs.Entries.{EntryCheck, entries_check, column}
+use Rattle.sched.specs.Refusals.{Checked}
 
 -- The checks
 
 module _ (check : EntryCheck) (size : List ℕ → ℕ) where
-  pub entries_first : (k j at : ℕ) (bs : List ℕ) → entries_check check size (suc k) j at bs ≡ Passed →
-      (check j at bs ≡ Passed) × (entries_check check size k (suc j) (at + size bs) (drop (size bs) bs) ≡ Passed)
+  pub entries_first : (k j at : ℕ) (bs : List ℕ) → entries_check check size (suc k) j at bs ≡ Ok tt →
+      (check j at bs ≡ Ok tt) × (entries_check check size k (suc j) (at + size bs) (drop (size bs) bs) ≡ Ok tt)
   unfolding entries_check
   entries_first k j at bs e = then_passed (check j at bs) (entries_check check size k (suc j) (at + size bs) (drop (size bs) bs)) e
 
-  pub entries_none : (j at : ℕ) (bs : List ℕ) → entries_check check size 0 j at bs ≡ Passed → [] ≡ bs
+  pub entries_none : (j at : ℕ) (bs : List ℕ) → entries_check check size 0 j at bs ≡ Ok tt → [] ≡ bs
   unfolding entries_check
   entries_none j at [] e = refl
-  entries_none j at (b ∷ bs) e = absurd (omega (arith, eqb-true (suc (length bs)) 0 (not-false _ (refuse_passed _ (LeftOver at) Passed e).0)))
+  entries_none j at (b ∷ bs) e = absurd (omega (arith, eqb-true (suc (length bs)) 0 (not-false _ (refuse_passed _ (LeftOver at) (Ok tt) e).0)))
 
   -- a loop at job `job`, whose entry starts at offset `at`
   module _ (bytes : List ℕ) where
@@ -45,24 +44,24 @@ module _ (check : EntryCheck) (size : List ℕ → ℕ) where
         rw (k, ← e, s, ← drop-drop (size rest) at bytes, ← e, add-one job)
 
     pub entries_next : (all : Checked) (count job at n : ℕ) (rest : List ℕ) → job < count → rest ≡ drop at bytes → n ≡ size rest →
-        check job at rest ≡ Passed → all ≡ left count job at → all ≡ left count (job + 1) (at + n)
+        check job at rest ≡ Ok tt → all ≡ left count job at → all ≡ left count (job + 1) (at + n)
     entries_next all count job at n rest l e s p q =
         q ∙ entries_turn count job at n rest l e s ∙ then_passes (check job at rest) (left count (job + 1) (at + n)) p
 
     pub entries_stop : (all : Checked) (count job at : ℕ) (rest : List ℕ) (r : Refusal) → job < count → rest ≡ drop at bytes →
-        check job at rest ≡ Refused r → all ≡ left count job at → Refused r ≡ all
+        check job at rest ≡ Err r → all ≡ left count job at → Err r ≡ all
     entries_stop all count job at rest r l e p q =
         let n = size rest in
         sym (q ∙ entries_turn count job at n rest l e refl ∙ then_fails (check job at rest) (left count (job + 1) (at + n)) r p)
 
     pub entries_left_over : (all : Checked) (count job at : ℕ) → count ≤ job → at < length bytes → all ≡ left count job at →
-        Refused (LeftOver at) ≡ all
+        Err (LeftOver at) ≡ all
     unfolding entries_check
     entries_left_over all count job at l a q =
         let k : count - job ≡ 0 = omega arith in
         sym (q ∙ rw (k, ne_eqb (length (drop at bytes)) 0 (omega (arith, length-drop at bytes))))
 
-    pub entries_end : (all : Checked) (count job at : ℕ) → count ≤ job → length bytes ≤ at → all ≡ left count job at → Passed ≡ all
+    pub entries_end : (all : Checked) (count job at : ℕ) → count ≤ job → length bytes ≤ at → all ≡ left count job at → (Ok tt) ≡ all
     unfolding entries_check
     entries_end all count job at l a q =
         let k : count - job ≡ 0 = omega arith in

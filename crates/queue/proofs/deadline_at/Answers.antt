@@ -1,24 +1,15 @@
 -- `deadline_at` meets its contract, by its test.
-use mathlib.Core.Path.{sym, ◌∙◌}
-use native.Mathlib.Omega.{arith}
+use Rattle.std.proofs.Common.{sym, arith}
 use Rattle.queue.specs.Arrivals.Laws.{beyond_in}
 use Rattle.queue.proofs.Events.{beyond_out}
 use Rattle.queue.proofs.deadline_at.Goals as goal
 
-pub bounds-ranks-k : goal.bounds-ranks-k
-bounds-ranks-k c = (c.requires c.if-k-deadlines.true).listed
-
-pub overflow_cast-job : goal.overflow_cast-job
-overflow_cast-job c = omega (arith, c.type_inv.ranks c.args.k)
-
-pub offset_bounds-deadlines-job : goal.offset_bounds-deadlines-job
-offset_bounds-deadlines-job c = omega (arith, c.type_inv.ranks c.args.k)
-
-pub bounds-deadlines-job : goal.bounds-deadlines-job
-bounds-deadlines-job c = (c.requires c.if-k-deadlines.true).job
-
-pub returns-then-k-deadlines : goal.returns-then-k-deadlines
-returns-then-k-deadlines c = c.wide.ensures ∙ sym (beyond_in _ _ _ c.if-k-deadlines.true)
+pub returns-then-k-jobs : goal.returns-then-k-jobs
+returns-then-k-jobs c =
+    let o = c.args.jobs.now.orders in
+    sym (beyond_in _ _ _ (omega (arith, c.if-k-jobs.true, o.same, o.by_deadline.long)))
 
 pub returns : goal.returns
-returns c = sym (beyond_out _ _ _ c.if-k-deadlines.false)
+returns c =
+    let o = c.args.jobs.now.orders in
+    sym (beyond_out _ _ _ (omega (arith, c.if-k-jobs.false, o.same, o.by_deadline.long)))

@@ -3,13 +3,10 @@ use Rattle.queue.proofs.SlotBySlot.{slot_sleeps, slot_can, slot_serves}
 use Rattle.queue.proofs.slot.Goals as goal
 
 pub returns-then-table-t : goal.returns-then-table-t
-returns-then-table-t c = slot_sleeps _ _ _ _ _ _ _ _ _ _ _ c.if-table-t.true c.requires.lookable.ready
-
-pub current-fresh-requires : goal.current-fresh-requires
-current-fresh-requires c = c.requires.lookable
+returns-then-table-t c = slot_sleeps _ _ _ _ _ c.if-table-t.true c.requires.lookable.ready
 
 pub serve_lowest-served-requires : goal.serve_lowest-served-requires
-serve_lowest-served-requires c pos = slot_can c.requires.lookable c.current-fresh.ensures pos
+serve_lowest-served-requires c = slot_can c.requires.lookable c.current-fresh.ensures
 
 pub returns : goal.returns
 returns c =

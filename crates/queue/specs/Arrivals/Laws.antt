@@ -1,8 +1,8 @@
 -- What comes at some slot, or never; and the rank at place i comes: it has come then, and no other has.
-use Rattle.std.specs.Prelude.{ℕ, suc, ◌≤◌, ◌<◌, ◌≡◌, Bool, ◌||◌, List, ◌≢◌, get_or}
+use Rattle.std.specs.Prelude.{ℕ, suc, ◌≤◌, ◌<◌, ◌≡◌, List, ◌≢◌, get_or}
 use Rattle.std.proofs.Math.Path.{refl}
 use Rattle.std.proofs.Common.{sym, ap, arith, lt-ltb, eq-eqb, ne_eqb}
-use Rattle.std.proofs.Math.Bool.{true, false}
+use Rattle.std.proofs.Math.Bool.{true, false, or-false}
 use Rattle.std.proofs.Math.Decide.{dec_lt}
 use Rattle.sched.specs.Bounded.{any_below}
 use Rattle.sched.proofs.Bounded.Laws.{any_intro, any_refute}
@@ -29,8 +29,4 @@ module _ (arrivals : List ℕ) (i : ℕ) where
 
   pub come_others : (k : ℕ) → k ≢ get_or arrivals i 0 → come arrivals (suc i) k ≡ come arrivals i k
   unfolding any_below
-  come_others k n = rw (ne_eqb (get_or arrivals i 0) k (λ e. n (sym e))) (or_none (come arrivals i k))
-    where
-      or_none : (b : Bool) → b || false ≡ b
-      or_none true = refl
-      or_none false = refl
+  come_others k n = rw (ne_eqb (get_or arrivals i 0) k (λ e. n (sym e))) (or-false (come arrivals i k))

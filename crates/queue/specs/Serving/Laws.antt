@@ -3,6 +3,7 @@ use Rattle.std.specs.Prelude.{ℕ, ◌-◌, ◌^◌, ◌≤◌, ◌<◌, ◌≡�
 use Rattle.std.proofs.Math.Path.{refl, sym, ap}
 use Rattle.std.proofs.Common.{◌∙◌, arith, eq-eqb, ne_eqb, le-ltb, eqb-true, get_or-set_other}
 use mathlib.Core.List.{List}
+use Rattle.std.proofs.Math.Bool.{and-false}
 use Rattle.std.proofs.Math.Option.{none, some}
 use Rattle.std.proofs.Math.Decide.{ℕ_discrete}
 use Rattle.std.proofs.lemmas.Bool.{eqb-false}
@@ -23,11 +24,7 @@ use Rattle.queue.specs.Serving.{CanServe, served_bits, Serves, Waits, After}
 
 -- a job with no unit left is not served
 unserved : (F : Spans) (t : ℕ) (L : State) (j : ℕ) → L j ≡ 0 → servable F t L j ≡ false
-unserved F t L j z = rw (le-ltb 0 (L j) (omega arith)) (and_none (leb (F.r j) t && ltb t (F.d j)))
-  where
-    and_none : (x : Bool) → x && false ≡ false
-    and_none true = refl
-    and_none false = refl
+unserved F t L j z = rw (le-ltb 0 (L j) (omega arith)) (and-false (leb (F.r j) t && ltb t (F.d j)))
 
 module _
     (F : Spans) (ranks left : List ℕ) (sorted : Sorted F.n F.d ranks) (few : F.n ≤ 64) (room : F.n ≤ length left)

@@ -1,5 +1,5 @@
 -- Run k of a set, found run by run; and where the part of a run lies in a record that passes the checks.
-use Rattle.std.specs.Prelude.{ℕ, zero, suc, ◌+◌, ◌-◌, ◌≤◌, ◌<◌, ◌≡◌, refl, Bool, true, false, length, get_or, take, drop, leb}
+use Rattle.std.specs.Prelude.{ℕ, zero, suc, ◌+◌, ◌-◌, ◌≤◌, ◌<◌, ◌≡◌, refl, Bool, true, false, length, get_or, take, drop, leb, Err, Ok, Result}
 use Rattle.std.proofs.Common.{sym, ap, ◌∙◌, arith, le-leb, leb-false, length-drop, take-add, drop-drop, get_or-drop}
 use mathlib.Core.List.{List, [], ◌∷◌, Memᴰ}
 use Rattle.std.proofs.lemmas.Bool.{lt-leb}
@@ -14,15 +14,12 @@ use Rattle.sched.proofs.Runs.Search.{RunFrom, run_from, run_moves}
 use Rattle.sched.proofs.Checks.Laws.{refuse_passed, then_passed}
 use Rattle.sched.specs.declared.Refusal.{Refusal}
 use Rattle.sched.specs.declared.Refusal.TheVariants.{NoSuchRun}
-use Rattle.sched.specs.declared.Checked.{Checked}
-use Rattle.sched.specs.declared.Checked.TheVariants.{Passed, Refused as Faulty}
 use Rattle.record.specs.declared.RunPlace.{RunPlace}
-use Rattle.record.specs.declared.RunFound.{RunFound}
-use Rattle.record.specs.declared.RunFound.TheVariants.{Found, Refused}
 use Rattle.record_parts.specs.Layout.{behind_map}
 use Rattle.record_parts.specs.Bytes.{slots_in, record_check}
 use Rattle.record_parts.proofs.Bytes.Laws.{GoodRecord, record_passed, length_slots_in, count_is_awake, awake_part, slot_bytes_are_awake}
 use Rattle.record.specs.OneRun.{run_at, exists_check, run_check, found_at, run_answer, run_in}
+use Rattle.sched.specs.Refusals.{Checked}
 
 -- the awake slots of a stretch
 
@@ -98,12 +95,12 @@ module _ (S : List Bool) (h behind k seen at first : ℕ) (long : length S ≡ h
     next = stretch_awake S h first stop long s moves
 
     -- the run that is looked for
-    pub searched_found : seen ≡ k → Found (record { first = first; offset = at; len = stop - first }) ≡ run_answer S behind k (exists_check S k)
+    pub searched_found : seen ≡ k → Ok (record { first = first; offset = at; len = stop - first }) ≡ run_answer S behind k (exists_check S k)
     searched_found e =
         let run : run_at S k ≡ record { first = first; slots = stop - first } =
         ap (run_at S) (sym e) ∙ run_here (run_list S) (runs_left S stop) (record { first = first; slots = stop - first }) (record { first = 0; slots = 0 }) seen (w.left ∙ next) in
         let some : k < length (run_list S) = omega (arith, w.many, ap length next, e) in
-        sym (simp (lt-leb (length (run_list S)) k some) (ap (found_at S behind) run ∙ sym (ap (λ (o : ℕ). Found (record { first = first; offset = o; len = stop - first })) w.offset)))
+        sym (simp (lt-leb (length (run_list S)) k some) (ap (found_at S behind) run ∙ sym (ap (λ (o : ℕ). Ok (record { first = first; offset = o; len = stop - first })) w.offset)))
 
     -- or another one
     pub searched_next : (first' : ℕ) → (seen ≡ k → ⊥) → StretchEnd S h stop false first' → Searched S h behind k (seen + 1) (at + (stop - first)) first'
@@ -129,13 +126,10 @@ module _ (S : List Bool) (h behind k seen at first : ℕ) (long : length S ≡ h
           awake_at_most S,
         )
 
-    pub searched_forward : (first' : ℕ) → StretchEnd S h stop false first' → first < first'
-    searched_forward first' s' = omega (arith, moves, s'.starts)
-
-  pub searched_none : h ≤ first → Refused (NoSuchRun seen) ≡ run_answer S behind k (exists_check S k)
+  pub searched_none : h ≤ first → Err (NoSuchRun seen) ≡ run_answer S behind k (exists_check S k)
   searched_none l =
       let n : length (run_list S) ≡ seen = omega (arith, w.many, ap length (none_left S first (omega arith))) in
-      sym (simp (le-leb (length (run_list S)) k (omega (arith, w.few))) (ap (λ (m : ℕ). Refused (NoSuchRun m)) n))
+      sym (simp (le-leb (length (run_list S)) k (omega (arith, w.few))) (ap (λ (m : ℕ). Err (NoSuchRun m)) n))
 
 -- Where the part lies.
 
@@ -159,22 +153,22 @@ pub record FoundRun (bytes : List ℕ) (k : ℕ) (part : RunPlace) : Type 0 wher
   pub offset : part.offset ≡ behind_map (word bytes) + awake_slots (take (run_at (slots_in bytes) k).first (slots_in bytes))
   pub len : part.len ≡ (run_at (slots_in bytes) k).slots
 
-first_of : RunFound → ℕ
-first_of (Found part) = part.first
-first_of (Refused r) = 0
+first_of : Result RunPlace Refusal → ℕ
+first_of (Ok part) = part.first
+first_of (Err r) = 0
 
-offset_of : RunFound → ℕ
-offset_of (Found part) = part.offset
-offset_of (Refused r) = 0
+offset_of : Result RunPlace Refusal → ℕ
+offset_of (Ok part) = part.offset
+offset_of (Err r) = 0
 
-len_of : RunFound → ℕ
-len_of (Found part) = part.len
-len_of (Refused r) = 0
+len_of : Result RunPlace Refusal → ℕ
+len_of (Ok part) = part.len
+len_of (Err r) = 0
 
-refused_not_found : {A : Type 0} (r : Refusal) (part : RunPlace) → Refused r ≡ Found part → A
+refused_not_found : {A : Type 0} (r : Refusal) (part : RunPlace) → Err r ≡ Ok part → A
 refused_not_found r part e = let z : ◌≡◌ {A = ℕ} 0 1 = cc in absurd (omega arith)
 
-pub found_run : (bytes : List ℕ) (k : ℕ) (part : RunPlace) → run_in bytes k ≡ Found part → FoundRun bytes k part
+pub found_run : (bytes : List ℕ) (k : ℕ) (part : RunPlace) → run_in bytes k ≡ Ok part → FoundRun bytes k part
 unfolding first_of offset_of len_of
 found_run bytes k part e = by (run_check bytes k) refl
   where
@@ -182,11 +176,11 @@ found_run bytes k part e = by (run_check bytes k) refl
     S = slots_in bytes
 
     by : (c : Checked) → run_check bytes k ≡ c → FoundRun bytes k part
-    by (Faulty r) f = refused_not_found r part (sym (ap (run_answer S (behind_map (word bytes)) k) f) ∙ e)
-    by Passed f =
+    by (Err r) f = refused_not_found r part (sym (ap (run_answer S (behind_map (word bytes)) k) f) ∙ e)
+    by (Ok tt) f =
         let (a, b) = then_passed (record_check bytes) (exists_check S k) f in
-        let n = refuse_passed (leb (length (run_list S)) k) (NoSuchRun (length (run_list S))) Passed b in
-        let q : found_at S (behind_map (word bytes)) (run_at S k) ≡ Found part = sym (ap (run_answer S (behind_map (word bytes)) k) f) ∙ e in
+        let n = refuse_passed (leb (length (run_list S)) k) (NoSuchRun (length (run_list S))) (Ok tt) b in
+        let q : found_at S (behind_map (word bytes)) (run_at S k) ≡ Ok part = sym (ap (run_answer S (behind_map (word bytes)) k) f) ∙ e in
         record {
           good = record_passed bytes a;
           exists = leb-false (length (run_list S)) k n.0;
@@ -196,7 +190,7 @@ found_run bytes k part e = by (run_check bytes k) refl
         }
 
 -- it lies within the record
-pub part_within : (bytes : List ℕ) (k : ℕ) (part : RunPlace) → AreBytes bytes → run_in bytes k ≡ Found part → part.offset + part.len ≤ length bytes
+pub part_within : (bytes : List ℕ) (k : ℕ) (part : RunPlace) → AreBytes bytes → run_in bytes k ≡ Ok part → part.offset + part.len ≤ length bytes
 part_within bytes k part small e =
     let f = found_run bytes k part e in
     let S = slots_in bytes in
@@ -210,7 +204,7 @@ part_within bytes k part small e =
       f.good.whole,
     )
 
-pub part_small : (bytes : List ℕ) (k : ℕ) (part : RunPlace) → AreBytes bytes → run_in bytes k ≡ Found part → part.offset + part.len ≤ 4610
+pub part_small : (bytes : List ℕ) (k : ℕ) (part : RunPlace) → AreBytes bytes → run_in bytes k ≡ Ok part → part.offset + part.len ≤ 4610
 part_small bytes k part small e =
     let g = (found_run bytes k part e).good in
     omega (

@@ -1,5 +1,5 @@
 -- Tables written and read, and records read and written again, over the definitions. The theorems about the functions are in `Theorems`.
-use Rattle.std.specs.Prelude.{ℕ, zero, suc, ◌+◌, ◌-◌, ◌≤◌, ◌<◌, ◌≡◌, Bool, true, false, not, ◌⊎◌, length, get_or, leb, eqb}
+use Rattle.std.specs.Prelude.{ℕ, zero, suc, ◌+◌, ◌-◌, ◌≤◌, ◌<◌, ◌≡◌, Bool, true, false, not, ◌⊎◌, length, get_or, leb, eqb, Ok}
 use Rattle.std.proofs.Math.Path.{refl, ap, ap₂}
 use Rattle.std.proofs.Common.{sym, ◌∙◌, inl, inr, arith, le-leb, le-ltb, eq-eqb, ne_eqb, eqb-true, leb-false, length-append, length-drop, drop_at, get_or-drop, drop-drop}
 use mathlib.Core.List.{List, [], ◌∷◌, ◌++◌, map}
@@ -20,7 +20,6 @@ use Rattle.sched.specs.Checks.{horizon_check, length_check, table_check, byte_ch
 use Rattle.sched.proofs.Checks.Laws.{then_passed, then_passes, refused_not_passed, horizon_good, length_passes}
 use Rattle.sched.proofs.Checks.Bytes.{bytes_good, bytes_pass}
 use Rattle.sched.specs.declared.Refusal.TheVariants.{BadByte, BadSlotByte}
-use Rattle.sched.specs.declared.Checked.TheVariants.{Passed}
 use Rattle.record_map.specs.MapBytes.{map_length, map_bytes_of}
 use Rattle.record_map.proofs.MapBytes.Laws.{length_map_of, ones_of_slots}
 use Rattle.record_map.specs.MapBits.{bits_of, some_bit}
@@ -36,11 +35,11 @@ use Rattle.record_parts.proofs.Bytes.Laws.{GoodRecord, record_passes, map_in_byt
 abbrev pub AwakeByte : ℕ → Type 0
 AwakeByte byte = (byte < 64) ⊎ (byte ≡ 254)
 
-awake_known : (at byte : ℕ) → AwakeByte byte → slot_byte_check at byte ≡ Passed
+awake_known : (at byte : ℕ) → AwakeByte byte → slot_byte_check at byte ≡ Ok tt
 awake_known at byte (inl l) = simp (lt-leb 64 byte l)
 awake_known at byte (inr e) = simp (le-leb 64 byte (omega arith), eq-eqb byte 254 e)
 
-pub known_awake : (at byte : ℕ) → slot_byte_check at byte ≡ Passed → AwakeByte byte
+pub known_awake : (at byte : ℕ) → slot_byte_check at byte ≡ Ok tt → AwakeByte byte
 known_awake at byte e = by_bool (leb 64 byte) (λ l. by_bool (eqb byte 254) (λ y. inr (eqb-true byte 254 y)) (bad l)) (λ l. inl (leb-false 64 byte l))
   where
     bad : leb 64 byte ≡ true → eqb byte 254 ≡ false → (byte < 64) ⊎ (byte ≡ 254)
@@ -51,7 +50,7 @@ awake_not_asleep byte (inl l) e = omega arith
 awake_not_asleep byte (inr f) e = omega arith
 
 -- what the writer takes: a byte of a slot that is not asleep
-taken_awake : (t byte : ℕ) → byte < 256 → byte_check t byte ≡ Passed → (byte ≡ 255 → ⊥) → AwakeByte byte
+taken_awake : (t byte : ℕ) → byte < 256 → byte_check t byte ≡ Ok tt → (byte ≡ 255 → ⊥) → AwakeByte byte
 taken_awake t byte small e n = by_bool (leb 64 byte) (λ l. by_bool (leb byte 253) (bad l) (λ h. inr (last (leb-false byte 253 h)))) (λ l. inl (leb-false 64 byte l))
   where
     bad : leb 64 byte ≡ true → leb byte 253 ≡ true → (byte < 64) ⊎ (byte ≡ 254)
@@ -60,7 +59,7 @@ taken_awake t byte small e n = by_bool (leb 64 byte) (λ l. by_bool (leb byte 25
     last : 253 < byte → byte ≡ 254
     last l = omega arith
 
-awake_taken : (t byte : ℕ) → AwakeByte byte → byte_check t byte ≡ Passed
+awake_taken : (t byte : ℕ) → AwakeByte byte → byte_check t byte ≡ Ok tt
 awake_taken t byte (inl l) = simp (lt-leb 64 byte l)
 awake_taken t byte (inr e) = simp (le-leb 64 byte (omega arith), lt-leb byte 253 (omega arith))
 
@@ -132,8 +131,8 @@ module _ (h : ℕ) (slots : List ℕ) (long : length slots ≡ h) where
   pub record_table : table_in (record_of h slots) ≡ slots
   record_table = ap₂ spread slots_back rest_back ∙ spread_back slots
 
-  module _ (small : AreBytes slots) (taken : slots_check h slots ≡ Passed) where
-    bytes_taken : bytes_from h 0 slots ≡ Passed
+  module _ (small : AreBytes slots) (taken : slots_check h slots ≡ Ok tt) where
+    bytes_taken : bytes_from h 0 slots ≡ Ok tt
     bytes_taken = (then_passed (table_check h (length slots)) (bytes_from h 0 slots) taken).1
 
     horizon_taken : (1 ≤ h) × (h ≤ 4096)
@@ -146,7 +145,7 @@ module _ (h : ℕ) (slots : List ℕ) (long : length slots ≡ h) where
         kept_awake slots
         (λ i l n. taken_awake i (get_or slots i 0) (small i) (bytes_good byte_check h 0 slots bytes_taken i (omega arith) (omega arith)) n)
 
-    known_back : bytes_by slot_byte_check (slot_byte_count (word R) R) (behind_map (word R)) R ≡ Passed
+    known_back : bytes_by slot_byte_check (slot_byte_count (word R) R) (behind_map (word R)) R ≡ Ok tt
     known_back =
         bytes_pass slot_byte_check (slot_byte_count (word R) R) (behind_map (word R)) R
         (λ i l m.
@@ -169,7 +168,7 @@ module _ (h : ℕ) (slots : List ℕ) (long : length slots ≡ h) where
         }
 
     -- the record of a table that the writer takes passes the reader's checks
-    pub record_taken : record_check (record_of h slots) ≡ Passed
+    pub record_taken : record_check (record_of h slots) ≡ Ok tt
     record_taken = record_passes R good_back
 
 -- A record that is read and written again.
@@ -247,7 +246,7 @@ module _ (bytes : List ℕ) (g : GoodRecord bytes) (small : AreBytes bytes) wher
       ∙ front_again bytes (omega (arith, g.whole)) small
 
   -- every byte of it is one that the writer takes
-  table_byte : (t : ℕ) → t < word bytes → byte_check t (get_or (table_in bytes) t 0) ≡ Passed
+  table_byte : (t : ℕ) → t < word bytes → byte_check t (get_or (table_in bytes) t 0) ≡ Ok tt
   table_byte t l =
       let S = slots_in bytes in
       let rest = drop (behind_map (word bytes)) bytes in
@@ -260,12 +259,12 @@ module _ (bytes : List ℕ) (g : GoodRecord bytes) (small : AreBytes bytes) wher
       (λ e. rw (spread_asleep S rest t inside e))
 
   -- and so the writer takes it, whatever stands behind it
-  pub table_taken : (more : List ℕ) → slots_check (word bytes) (table_in bytes ++ more) ≡ Passed
+  pub table_taken : (more : List ℕ) → slots_check (word bytes) (table_in bytes ++ more) ≡ Ok tt
   table_taken more =
       let h = word bytes in
       let table = table_in bytes ++ more in
       let long : h ≤ length table = omega (arith, length-append (table_in bytes) more, length_table bytes g small) in
-      let low : horizon_check h ≡ Passed = simp (ne_eqb h 0 (omega (arith, g.low)), le-ltb 4096 h g.high) in
+      let low : horizon_check h ≡ (Ok tt) = simp (ne_eqb h 0 (omega (arith, g.low)), le-ltb 4096 h g.high) in
       then_passes (table_check h (length table)) (bytes_from h 0 table)
       (then_passes (horizon_check h) (length_check (length table) h) low ∙ length_passes (length table) h long)
       ∙ bytes_pass byte_check h 0 table

@@ -1,6 +1,6 @@
 -- 02, card 2: "the slot bytes of one awake run, chosen by its number from 0". `Finds` is what `find_run` promises, and `run_bytes` gives `run_part`.
 use Prim.Native.Nat.{ℕ, zero, suc, ◌+◌, ◌-◌, ◌≤◌, ◌<◌}
-use Rattle.std.specs.Prelude.{◌≡◌, Bool, not, ◌&&◌, ◌↔◌, get_or, leb, ltb, eqb}
+use Rattle.std.specs.Prelude.{◌≡◌, Bool, not, ◌&&◌, ◌↔◌, get_or, leb, ltb, eqb, Err, Ok, Result}
 use Rattle.std.proofs.Math.Path.{refl, sym, ap, ap₂}
 use Rattle.std.proofs.Common.{◌∙◌, leb-true, length-append, take-add, drop-drop}
 use Rattle.std.proofs.Math.Bool.{true, false}
@@ -24,12 +24,7 @@ use Rattle.sched.proofs.Checks.Laws.{then_passes, refused_not_passed, past_check
 use Rattle.sched.proofs.Checks.Bytes.{bytes_at_most}
 use Rattle.sched.specs.declared.Refusal.{Refusal}
 use Rattle.sched.specs.declared.Refusal.TheVariants.{Truncated, LeftOver, PaddingBit, BadSlotByte, NoSuchRun}
-use Rattle.sched.specs.declared.Checked.{Checked}
-use Rattle.sched.specs.declared.Checked.TheVariants.{Passed, Refused as Faulty}
 use Rattle.record.specs.declared.RunPlace.{RunPlace}
-use Rattle.record.specs.declared.RunFound.{RunFound}
-use Rattle.record.specs.declared.RunFound.TheVariants.{Found, Refused}
-use Rattle.record.specs.declared.RecordRead.TheVariants.{Read}
 use Rattle.record_map.specs.MapBytes.{map_length}
 use Rattle.record_map.specs.MapBits.{some_bit}
 use Rattle.record_map.proofs.MapBits.Laws.{awake_first}
@@ -41,6 +36,7 @@ use Rattle.record.proofs.Reading.Back.{length_table}
 use Rattle.record.specs.OneRun.{run_at, exists_check, run_check, found_at, run_answer, run_in, part_of, run_part, found_number, found_values, Finds}
 use Rattle.record.proofs.OneRun.Laws.{run_longest, run_fits, found_run}
 use Rattle.record.proofs.Theorems.RoundTrip.{has_read}
+use Rattle.sched.specs.Refusals.{Checked}
 
 -- The part of a run among the slot bytes B of a set.
 
@@ -134,7 +130,7 @@ longest_within S r g = go (dec_lt (length S) (r.first + r.slots))
 
 -- Run k of a record that passes the checks.
 
-module _ (bytes : List ℕ) (small : AreBytes bytes) (p : record_check bytes ≡ Passed) where
+module _ (bytes : List ℕ) (small : AreBytes bytes) (p : record_check bytes ≡ Ok tt) where
   abbrev S : List Bool
   S = slots_in bytes
 
@@ -147,7 +143,7 @@ module _ (bytes : List ℕ) (small : AreBytes bytes) (p : record_check bytes ≡
   module _ (k : ℕ) (l : k < length (run_list S)) where
     run_answer_lem : run_in bytes k ≡ found_at S (behind_map (word bytes)) (run_at S k)
     run_answer_lem =
-        let exists : exists_check S k ≡ Passed = simp (lt-leb (length (run_list S)) k l) in
+        let exists : exists_check S k ≡ (Ok tt) = simp (lt-leb (length (run_list S)) k l) in
         ap (run_answer S (behind_map (word bytes)) k) (then_passes (record_check bytes) (exists_check S k) p ∙ exists)
 
     part_piece : run_part bytes k ≡ piece S rest (run_at S k)
@@ -193,7 +189,7 @@ pub record RunIs (bytes : List ℕ) (k : ℕ) (at : RunPlace) : Type 0 where
   pub long : length (run_part bytes k) ≡ at.len
   pub slots : run_part bytes k ≡ take at.len (drop at.first (table_in bytes))
 
-pub run_is : (bytes : List ℕ) (k : ℕ) (at : RunPlace) → AreBytes bytes → Finds bytes k (Found at) → RunIs bytes k at
+pub run_is : (bytes : List ℕ) (k : ℕ) (at : RunPlace) → AreBytes bytes → Finds bytes k (Ok at) → RunIs bytes k at
 run_is bytes k at small f =
     let w = found_run bytes k at (sym f.same) in
     let p = record_passes bytes w.good in
@@ -209,7 +205,7 @@ run_is bytes k at small f =
     }
 
 -- 2. The parts of runs 0, 1, .. put one behind the other are the record's slot bytes.
-pub parts_are_slot_bytes : (bytes : List ℕ) → AreBytes bytes → record_check bytes ≡ Passed →
+pub parts_are_slot_bytes : (bytes : List ℕ) → AreBytes bytes → record_check bytes ≡ Ok tt →
     parts_from (length (run_list (slots_in bytes))) 0 bytes ≡ drop (behind_map (word bytes)) bytes
 parts_are_slot_bytes bytes small p =
     flat_parts bytes small p (run_list (slots_in bytes)) 0
@@ -223,7 +219,7 @@ record_at_most bytes =
     let n = length bytes in
     let count = slot_byte_count h bytes in
     let end = behind_map h + count in
-    let left : Checked = refuse_if (ltb end n) (LeftOver end) Passed in
+    let left : Checked = refuse_if (ltb end n) (LeftOver end) (Ok tt) in
     let known : Checked = bytes_by slot_byte_check count (behind_map h) bytes in
     let slots : Checked = slot_bytes_check (behind_map h) count bytes in
     let padded : Checked = refuse_if (some_bit (padding_in h bytes)) (PaddingBit (1 + map_length h)) slots in
@@ -234,17 +230,17 @@ record_at_most bytes =
     (refusal_at_most 32 (ltb n end) (Truncated n) (and_then known left) (omega arith)
     (check_at_most 32 known left
     (bytes_at_most 32 slot_byte_check count (behind_map h) bytes
-    (λ i. refusal_at_most 32 (leb 64 (get_or bytes i 0) && not (eqb (get_or bytes i 0) 254)) (BadSlotByte i) Passed (omega arith) (omega arith)))
-    (refusal_at_most 32 (ltb end n) (LeftOver end) Passed (omega arith) (omega arith)))))))
+    (λ i. refusal_at_most 32 (leb 64 (get_or bytes i 0) && not (eqb (get_or bytes i 0) 254)) (BadSlotByte i) (Ok tt) (omega arith) (omega arith)))
+    (refusal_at_most 32 (ltb end n) (LeftOver end) (Ok tt) (omega arith) (omega arith)))))))
 
 -- So a caller that asks for runs 0, 1, .. until it is told 33 at n has had all n runs, and with them all slot bytes.
 pub record AllRuns (bytes : List ℕ) (k n : ℕ) : Type 0 where
-  pub passed : record_check bytes ≡ Passed
+  pub passed : record_check bytes ≡ Ok tt
   pub count : n ≡ runs (slots_in bytes)
   pub beyond : n ≤ k
   pub joined : parts_from n 0 bytes ≡ drop (behind_map (word bytes)) bytes
 
-pub all_runs : (bytes : List ℕ) (k n : ℕ) (answer : RunFound) → AreBytes bytes → Finds bytes k answer → found_number answer ≡ 33 → found_values answer ≡ n ∷ [] →
+pub all_runs : (bytes : List ℕ) (k n : ℕ) (answer : Result RunPlace Refusal) → AreBytes bytes → Finds bytes k answer → found_number answer ≡ 33 → found_values answer ≡ n ∷ [] →
     AllRuns bytes k n
 all_runs bytes k n answer small f told place = by (run_check bytes k) refl
   where
@@ -257,8 +253,8 @@ all_runs bytes k n answer small f told place = by (run_check bytes k) refl
     values_are : (c : Checked) → run_check bytes k ≡ c → found_values (run_answer S (behind_map (word bytes)) k c) ≡ n ∷ []
     values_are c e = sym (f.values ∙ ap (λ (x : Checked). found_values (run_answer S (behind_map (word bytes)) k x)) e) ∙ place
 
-    exists : (p : record_check bytes ≡ Passed) (b : Bool) (r : Refusal) → leb (length (run_list S)) k ≡ b → refuse_if b (NoSuchRun (length (run_list S))) Passed ≡ Faulty r →
-        found_values (Refused r) ≡ n ∷ [] → AllRuns bytes k n
+    exists : (p : record_check bytes ≡ Ok tt) (b : Bool) (r : Refusal) → leb (length (run_list S)) k ≡ b → refuse_if b (NoSuchRun (length (run_list S))) (Ok tt) ≡ Err r →
+        found_values (Err r) ≡ n ∷ [] → AllRuns bytes k n
     exists p false r e q v = refused_not_passed r (sym q)
     exists p true r e q v =
         let is : length (run_list S) ≡ n = heads (ap (λ (c : Checked). found_values (run_answer S (behind_map (word bytes)) k c)) q ∙ v) in
@@ -273,20 +269,20 @@ all_runs bytes k n answer small f told place = by (run_check bytes k) refl
         heads z = cc z
 
     by : (c : Checked) → run_check bytes k ≡ c → AllRuns bytes k n
-    by Passed e = absurd (omega (arith, number_is Passed e))
-    by (Faulty r) e =
-        let number : checked_number (run_check bytes k) ≡ 33 = ap checked_number e ∙ number_is (Faulty r) e in
+    by (Ok tt) e = absurd (omega (arith, number_is (Ok tt) e))
+    by (Err r) e =
+        let number : checked_number (run_check bytes k) ≡ 33 = ap checked_number e ∙ number_is (Err r) e in
         let past = past_check (λ (m : ℕ). m ≡ 33) (record_check bytes) (exists_check S k) (λ z. omega (arith, record_at_most bytes)) number in
-        exists past.0 (leb (length (run_list S)) k) r refl (sym (then_passes (record_check bytes) (exists_check S k) past.0) ∙ e) (values_are (Faulty r) e)
+        exists past.0 (leb (length (run_list S)) k) r refl (sym (then_passes (record_check bytes) (exists_check S k) past.0) ∙ e) (values_are (Err r) e)
 
 -- 3. The part is empty exactly where `find_run` refuses.
-pub part_empty_iff_refused : (bytes part : List ℕ) (k : ℕ) (answer : RunFound) → AreBytes bytes → Finds bytes k answer → part ≡ run_part bytes k →
+pub part_empty_iff_refused : (bytes part : List ℕ) (k : ℕ) (answer : Result RunPlace Refusal) → AreBytes bytes → Finds bytes k answer → part ≡ run_part bytes k →
     (part ≡ []) ↔ (found_number answer ≡ 0 → ⊥)
 part_empty_iff_refused bytes part k answer small f e = by answer f.same
   where
-    by : (a : RunFound) → a ≡ run_in bytes k → (part ≡ []) ↔ (found_number a ≡ 0 → ⊥)
-    by (Refused r) q = (λ z. refusal_number r, λ n. e ∙ ap (part_of bytes) (sym q))
-    by (Found at) q = (λ z. absurd (some z), λ n. absurd (n refl))
+    by : (a : Result RunPlace Refusal) → a ≡ run_in bytes k → (part ≡ []) ↔ (found_number a ≡ 0 → ⊥)
+    by (Err r) q = (λ z. refusal_number r, λ n. e ∙ ap (part_of bytes) (sym q))
+    by (Ok at) q = (λ z. absurd (some z), λ n. absurd (n refl))
       where
         some : part ≡ [] → ⊥
         some z =
@@ -295,7 +291,7 @@ part_empty_iff_refused bytes part k answer small f e = by answer f.same
             omega (arith, ap length (sym e ∙ z), part_long bytes small p k w.exists, (run_longest (slots_in bytes) k w.exists).some)
 
 -- 4. Where the record is read, the part holds the bytes of the run's slots in the lent table.
-pub part_is_in_table : (bytes lent filled : List ℕ) (h k : ℕ) (at : RunPlace) → AreBytes bytes → Reads bytes lent (Read h) filled → Finds bytes k (Found at) →
+pub part_is_in_table : (bytes lent filled : List ℕ) (h k : ℕ) (at : RunPlace) → AreBytes bytes → Reads bytes lent (Ok h) filled → Finds bytes k (Ok at) →
     run_part bytes k ≡ take at.len (drop at.first filled)
 part_is_in_table bytes lent filled h k at small r f =
     let w = found_run bytes k at (sym f.same) in

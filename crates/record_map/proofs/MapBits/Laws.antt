@@ -1,5 +1,5 @@
 -- The bits of map bytes one by one, how many stand, and that packing and taking apart undo each other.
-use Rattle.std.specs.Prelude.{ℕ, zero, suc, ◌+◌, ◌-◌, ◌*◌, ◌/◌, ◌%◌, ◌^◌, ◌<◌, ◌≡◌, refl, Bool, true, false, List, [], ◌∷◌, ◌++◌, map, length, get_or, take, drop, eqb}
+use Rattle.std.specs.Prelude.{ℕ, zero, suc, ◌+◌, ◌-◌, ◌*◌, ◌/◌, ◌%◌, ◌^◌, ◌≤◌, ◌<◌, ◌≡◌, refl, Bool, true, false, List, [], ◌∷◌, ◌++◌, map, length, get_or, take, drop, eqb}
 use Rattle.std.proofs.Common.{sym, ap, ap₂, ◌∙◌, pow-suc, div-one, arith, eq-eqb, ne_eqb, length-append, get_or-append-add, get_or-drop, get_or-take, ext_get_or, length-take-le, shr-shr}
 use Rattle.std.proofs.Math.Nat.{pow-zero}
 use Rattle.std.proofs.Math.Decide.{ℕ_discrete, dec_lt}
@@ -28,6 +28,10 @@ pub length_bits : (M : List ℕ) → length (bits_of M) ≡ 8 * length M
 unfolding bits_of
 length_bits [] = refl
 length_bits (byte ∷ M) = omega (arith, length-append (low_bits 8 byte) (bits_of M), length_low 8 byte, length_bits M)
+
+-- a map with a bit for each slot has all slots
+pub length_slots : (h : ℕ) (M : List ℕ) → h ≤ 8 * length M → length (take h (bits_of M)) ≡ h
+length_slots h M l = length-take-le h (bits_of M) (omega (arith, length_bits M))
 
 -- the bit of a slot
 
@@ -185,8 +189,8 @@ bits_are (suc k) t S byte l g =
     omega (arith, ap bit first, low_bit byte, bits_are k (suc t) S (byte / 2) half rest)
 
 module _ (h : ℕ) (M : List ℕ) (long : length M ≡ map_length h) (small : AreBytes M) (clear : some_bit (drop h (bits_of M)) ≡ false) where
-  length_slots : length (take h (bits_of M)) ≡ h
-  length_slots = length-take-le h (bits_of M) (omega (arith, length_bits M))
+  all_slots : length (take h (bits_of M)) ≡ h
+  all_slots = length_slots h M (omega arith)
 
   slot_kept : (t : ℕ) → awake (take h (bits_of M)) t ≡ awake (bits_of M) t
   slot_kept t = go (dec_lt t h)
@@ -195,7 +199,7 @@ module _ (h : ℕ) (M : List ℕ) (long : length M ≡ map_length h) (small : Ar
       go (yes l) = get_or-take h (bits_of M) t false l
       go (no n) =
           let e : h + (t - h) ≡ t = omega arith in
-          get_or-eq_default (take h (bits_of M)) false (omega (arith, length_slots))
+          get_or-eq_default (take h (bits_of M)) false (omega (arith, all_slots))
           ∙ sym (some_none (drop h (bits_of M)) clear (t - h))
           ∙ get_or-drop h (bits_of M) (t - h) false
           ∙ ap (awake (bits_of M)) e
@@ -212,6 +216,6 @@ module _ (h : ℕ) (M : List ℕ) (long : length M ≡ map_length h) (small : Ar
   map_again =
       let S = take h (bits_of M) in
       let k = map_length (length S) in
-      let many : k ≡ length M = ap map_length length_slots ∙ sym long in
+      let many : k ≡ length M = ap map_length all_slots ∙ sym long in
       ext_get_or 0 (map_bytes_of S) M (length_map_from k 0 S ∙ many)
       (λ j l. let m : j < k = omega (arith, length_map_from k 0 S) in map_at k 0 S j m ∙ byte_again j (omega arith))

@@ -1,5 +1,5 @@
 -- The order of two checks; a record that passes all; its lengths; and tables from awake slots and their bytes, slot by slot.
-use Rattle.std.specs.Prelude.{ℕ, zero, suc, ◌+◌, ◌≤◌, ◌<◌, ◌≡◌, refl, Bool, true, length, get_or, take, drop, ltb}
+use Rattle.std.specs.Prelude.{ℕ, zero, suc, ◌+◌, ◌≤◌, ◌<◌, ◌≡◌, refl, Bool, true, length, get_or, take, drop, ltb, Err, Ok}
 use Rattle.std.proofs.Math.Path.{ap}
 use Rattle.std.proofs.Common.{◌∙◌, le-ltb, ne_eqb, ltb-false, length-drop, take-append-drop, length-take-le, take-suc, drop-drop, get_or-drop}
 use Rattle.std.proofs.Math.Bool.{false}
@@ -16,17 +16,16 @@ use Rattle.sched.specs.Checks.{refuse_if, and_then, horizon_check, bytes_by}
 use Rattle.sched.proofs.Checks.Laws.{refuse_passed, then_passed, horizon_good}
 use Rattle.sched.specs.declared.Refusal.{Refusal}
 use Rattle.sched.specs.declared.Refusal.TheVariants.{Truncated, LeftOver, PaddingBit}
-use Rattle.sched.specs.declared.Checked.{Checked}
-use Rattle.sched.specs.declared.Checked.TheVariants.{Passed, Refused as Faulty}
 use Rattle.record_map.specs.MapBytes.{map_length}
 use Rattle.record_map.specs.MapBits.{bits_of, some_bit}
 use Rattle.record_map.proofs.MapBits.Laws.{length_bits, ones_bits, none_awake, awake_first}
 use Rattle.record_parts.specs.Layout.{behind_map}
 use Rattle.record_parts.specs.Bytes.{map_in, slots_in, padding_in, slot_byte_count, slot_byte_check, slot_bytes_check, body_check, record_check, spread}
+use Rattle.sched.specs.Refusals.{Checked}
 
 -- "32, 16": a bad slot byte is told before bytes that are left over
-pub bad_first : (from count : ℕ) (bytes : List ℕ) (r : Refusal) → from + count ≤ length bytes → bytes_by slot_byte_check count from bytes ≡ Faulty r →
-    slot_bytes_check from count bytes ≡ Faulty r
+pub bad_first : (from count : ℕ) (bytes : List ℕ) (r : Refusal) → from + count ≤ length bytes → bytes_by slot_byte_check count from bytes ≡ Err r →
+    slot_bytes_check from count bytes ≡ Err r
 bad_first from count bytes r l e = simp (le-ltb (length bytes) (from + count) l, e)
 
 -- a record that passes the checks
@@ -35,14 +34,14 @@ pub record GoodRecord (bytes : List ℕ) : Type 0 where
   pub high : word bytes ≤ 4096
   pub clear : some_bit (padding_in (word bytes) bytes) ≡ false
   pub whole : length bytes ≡ behind_map (word bytes) + slot_byte_count (word bytes) bytes
-  pub known : bytes_by slot_byte_check (slot_byte_count (word bytes) bytes) (behind_map (word bytes)) bytes ≡ Passed
+  pub known : bytes_by slot_byte_check (slot_byte_count (word bytes) bytes) (behind_map (word bytes)) bytes ≡ Ok tt
 
-pub record_passed : (bytes : List ℕ) → record_check bytes ≡ Passed → GoodRecord bytes
+pub record_passed : (bytes : List ℕ) → record_check bytes ≡ Ok tt → GoodRecord bytes
 record_passed bytes e =
     let h = word bytes in
     let n = length bytes in
     let end = behind_map h + slot_byte_count h bytes in
-    let x₆ : Checked = refuse_if (ltb end n) (LeftOver end) Passed in
+    let x₆ : Checked = refuse_if (ltb end n) (LeftOver end) (Ok tt) in
     let x₅ : Checked = and_then (bytes_by slot_byte_check (slot_byte_count h bytes) (behind_map h) bytes) x₆ in
     let x₄ : Checked = slot_bytes_check (behind_map h) (slot_byte_count h bytes) bytes in
     let x₃ : Checked = refuse_if (some_bit (padding_in h bytes)) (PaddingBit (1 + map_length h)) x₄ in
@@ -53,7 +52,7 @@ record_passed bytes e =
     let d = refuse_passed (some_bit (padding_in h bytes)) (PaddingBit (1 + map_length h)) x₄ c.1 in
     let f = refuse_passed (ltb n end) (Truncated n) x₅ d.1 in
     let g = then_passed (bytes_by slot_byte_check (slot_byte_count h bytes) (behind_map h) bytes) x₆ f.1 in
-    let k = refuse_passed (ltb end n) (LeftOver end) Passed g.1 in
+    let k = refuse_passed (ltb end n) (LeftOver end) (Ok tt) g.1 in
     let at_least : end ≤ n = ltb-false n end f.0 in
     let at_most : n ≤ end = ltb-false end n k.0 in
     record {
@@ -64,7 +63,7 @@ record_passed bytes e =
       known = g.0;
     }
 
-pub record_passes : (bytes : List ℕ) → GoodRecord bytes → record_check bytes ≡ Passed
+pub record_passes : (bytes : List ℕ) → GoodRecord bytes → record_check bytes ≡ Ok tt
 record_passes bytes g =
     let h = word bytes in
     let n = length bytes in

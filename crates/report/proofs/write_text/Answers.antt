@@ -7,7 +7,7 @@ use Rattle.sched.proofs.Checks.Laws.{length_good}
 use Rattle.report.specs.Report.{line, run_lines}
 use Rattle.report.specs.Report.Laws.{line_length, numbers_few}
 use Rattle.report.proofs.Stretches.{lines_most}
-use Rattle.report.proofs.Answers.{text_size, text_put, no_room, has_room}
+use Rattle.report.proofs.Answers.{text_size, text_put, has_room}
 use Rattle.report.proofs.write_text.Goals as goal
 
 pub overflow_add-n : goal.overflow_add-n
@@ -23,28 +23,12 @@ overflow_add-n c =
       lines_most c.args.slots.now c.requires.within,
     )
 
-pub put-behind-requires : goal.put-behind-requires
-put-behind-requires c =
-    let fits = length_good (length c.args.out.now) (c.size.result + c.size-2.result) (sym c.check_length.ensures.same ∙ c.in-Passed.is) in
-    omega (arith, fits, c.size.ensures)
-
-pub put-requires : goal.put-requires
-put-requires c =
-    let fits = length_good (length c.args.out.now) (c.size.result + c.size-2.result) (sym c.check_length.ensures.same ∙ c.in-Passed.is) in
-    omega (arith, fits, c.size.ensures, c.size-2.ensures, c.put-behind.ensures.next, c.put-behind.auto.out)
-
-pub returns-in-Passed : goal.returns-in-Passed
-returns-in-Passed c =
+pub returns : goal.returns
+returns c =
     let a = c.args in
     let size_is = text_size a.word.now a.values.now a.slots.now _ _ c.size.ensures c.size-2.ensures in
-    let passed = sym c.check_length.ensures.same ∙ c.in-Passed.is in
+    let passed = sym c.check_length.ensures.same ∙ c.in_ok-check_length.was in
     let fits = length_good (length a.out.now) (c.size.result + c.size-2.result) passed in
     has_room _ _ _ size_is _ passed
     (text_put (line a.word.now a.values.now) (run_lines a.slots.now) a.out.now _ _ _ _ (omega (arith, fits, size_is))
     c.put-behind.ensures c.put.ensures)
-
-pub returns-in-Refused : goal.returns-in-Refused
-returns-in-Refused c =
-    let a = c.args in
-    let size_is = text_size a.word.now a.values.now a.slots.now _ _ c.size.ensures c.size-2.ensures in
-    no_room _ _ _ size_is _ (sym c.check_length.ensures.same ∙ c.in-Refused.is)

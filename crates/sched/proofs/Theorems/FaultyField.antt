@@ -1,6 +1,6 @@
 -- 02, card 1, "Say which job field is bad": when a list is refused for a job, and which job and field it is then. `list_check` is what planner,
 -- judge, list writer and the search for the tightest interval begin with; for the list reader see `joblist/specs/Theorems/FaultyField`.
-use Rattle.std.specs.Prelude.{ℕ, zero, suc, ◌+◌, ◌≤◌, ◌<◌, ◌≡◌, refl, Bool, true, false, not, List, [], ◌∷◌, ◌↔◌, length, get_or, leb, ltb, eqb}
+use Rattle.std.specs.Prelude.{ℕ, zero, suc, ◌+◌, ◌≤◌, ◌<◌, ◌≡◌, refl, Bool, true, false, not, List, [], ◌∷◌, ◌↔◌, length, get_or, leb, ltb, eqb, Err, Ok}
 use Rattle.std.proofs.Common.{ap, sym, subst, ◌∙◌, inl, inr, arith, le-ltb, ne_eqb, leb-true, leb-false, ltb-true, ltb-false, eqb-true}
 use Rattle.std.proofs.Math.Decide.{ℕ_discrete}
 use Rattle.std.proofs.lemmas.Bool.{eqb-false, not-false}
@@ -11,8 +11,7 @@ use Rattle.sched.proofs.Checks.Laws.{job_good, job_passes, job_place, horizon_go
 use Rattle.sched.proofs.Checks.Laws.{refuse_passed, refused_not_passed, passed_passes}
 use Rattle.sched.proofs.Theorems.RefusesJob.{RefusesJob, not_job, past_if, past_then, before_if, before_then, other_passed, other_horizon, other_count}
 use Rattle.sched.specs.declared.Refusal.TheVariants.{OutOfRange, EmptySpan, Unequal, PastHorizon, NoVolume}
-use Rattle.sched.specs.declared.Checked.{Checked}
-use Rattle.sched.specs.declared.Checked.TheVariants.{Passed, Refused}
+use Rattle.sched.specs.Refusals.{Checked}
 
 -- the number n that comes back for a job: "25, the deadline is above H", 15, "a release that is not before the deadline", "26, the volume is 0",
 -- and "the order is 25, 15, 26"
@@ -47,7 +46,7 @@ pub job_names_field : (h j r d p : ℕ) → NamesField h r d p (checked_number (
 job_names_field h j r d p = by (ltb h d) (leb d r) (eqb p 0) refl refl refl
   where
     by : (horizon span volume : Bool) → ltb h d ≡ horizon → leb d r ≡ span → eqb p 0 ≡ volume →
-        NamesField h r d p (checked_number (refuse_if horizon (PastHorizon j) (refuse_if span (EmptySpan j) (refuse_if volume (NoVolume j) Passed))))
+        NamesField h r d p (checked_number (refuse_if horizon (PastHorizon j) (refuse_if span (EmptySpan j) (refuse_if volume (NoVolume j) (Ok tt)))))
     by true span volume a b c =
         let late = ltb-true h d a in
         record {
@@ -82,8 +81,8 @@ job_names_field h j r d p = by (ltb h d) (leb d r) (eqb p 0) refl refl refl
 
 -- an answer that is a job's own check, and refuses it
 pub own_values : (h j r d p : ℕ) (c : Checked) → c ≡ job_check h j r d p → RefusesJob c → checked_values c ≡ j ∷ []
-own_values h j r d p Passed e f = absurd (other_passed f)
-own_values h j r d p (Refused x) e f = ap (λ (n : ℕ). n ∷ []) (job_place h j r d p x (sym e))
+own_values h j r d p (Ok tt) e f = absurd (other_passed f)
+own_values h j r d p (Err x) e f = ap (λ (n : ℕ). n ∷ []) (job_place h j r d p x (sym e))
 
 -- the k jobs from j on, of which one is refused
 record Met (k j h : ℕ) (rs ds ps : List ℕ) (c : Checked) : Type 0 where
@@ -113,7 +112,7 @@ walk_met (suc k) j h rs ds ps f = go here refl (λ g. walk_met k (suc j) h rs ds
     below this to later i l u (no q) = later i (omega arith) u
 
     go : (c : Checked) → here ≡ c → (RefusesJob rest → Met k (suc j) h rs ds ps rest) → Met (suc k) j h rs ds ps (and_then here rest)
-    go (Refused x) e later =
+    go (Err x) e later =
         record {
           job = j;
           from = omega arith;
@@ -121,7 +120,7 @@ walk_met (suc k) j h rs ds ps f = go here refl (λ g. walk_met k (suc j) h rs ds
           lower = λ i l m. absurd (omega arith);
           own = then_fails here rest x e ∙ sym e;
         }
-    go Passed e later =
+    go (Ok tt) e later =
         let m = later (subst RefusesJob (then_passes here rest e) f) in
         let this = job_good h j (get_or rs j 0) (get_or ds j 0) (get_or ps j 0) e in
         record {
@@ -159,7 +158,7 @@ module _ (h : ℕ) (rs ds ps : List ℕ) where
         high = bounds.1;
         same_deadlines = eqb-true (length ds) (length rs) (not-false _ (before_if (not (eqb (length ds) (length rs))) (Unequal 0) volumes nineteen f₁));
         same_volumes = eqb-true (length ps) (length rs) (not-false _ (before_if (not (eqb (length ps) (length rs))) (Unequal 0) counted nineteen f₂));
-        few = ltb-false 64 (length rs) (refuse_passed (ltb 64 (length rs)) (OutOfRange 4) Passed count).0;
+        few = ltb-false 64 (length rs) (refuse_passed (ltb 64 (length rs)) (OutOfRange 4) (Ok tt) count).0;
       }
 
   jobs_decide : Ready h rs ds ps → list_check h rs ds ps ≡ jobs
@@ -192,14 +191,14 @@ pub job_refused : (h j r d p : ℕ) → RefusesJob (job_check h j r d p) ↔ (Go
 job_refused h j r d p = (λ f g. other_passed (subst RefusesJob (job_passes h j r d p g) f), λ n. by (ltb h d) (leb d r) (eqb p 0) (λ e. n (job_good h j r d p e)))
   where
     by : (horizon span volume : Bool) →
-        (refuse_if horizon (PastHorizon j) (refuse_if span (EmptySpan j) (refuse_if volume (NoVolume j) Passed)) ≡ Passed → ⊥) →
-        RefusesJob (refuse_if horizon (PastHorizon j) (refuse_if span (EmptySpan j) (refuse_if volume (NoVolume j) Passed)))
+        (refuse_if horizon (PastHorizon j) (refuse_if span (EmptySpan j) (refuse_if volume (NoVolume j) (Ok tt))) ≡ Ok tt → ⊥) →
+        RefusesJob (refuse_if horizon (PastHorizon j) (refuse_if span (EmptySpan j) (refuse_if volume (NoVolume j) (Ok tt))))
     by true span volume n = inl refl
     by false true volume n = inr (inl refl)
     by false false true n = inr (inr refl)
     by false false false n = absurd (n refl)
 
-walk_refuses : (k j h : ℕ) (rs ds ps : List ℕ) → (check_from job_check k j h rs ds ps ≡ Passed → ⊥) → RefusesJob (check_from job_check k j h rs ds ps)
+walk_refuses : (k j h : ℕ) (rs ds ps : List ℕ) → (check_from job_check k j h rs ds ps ≡ Ok tt → ⊥) → RefusesJob (check_from job_check k j h rs ds ps)
 unfolding check_from
 walk_refuses zero j h rs ds ps n = absurd (n refl)
 walk_refuses (suc k) j h rs ds ps n = go here refl (λ m. walk_refuses k (suc j) h rs ds ps m)
@@ -210,13 +209,13 @@ walk_refuses (suc k) j h rs ds ps n = go here refl (λ m. walk_refuses k (suc j)
     rest : Checked
     rest = check_from job_check k (suc j) h rs ds ps
 
-    go : (c : Checked) → here ≡ c → ((rest ≡ Passed → ⊥) → RefusesJob rest) → RefusesJob (and_then here rest)
-    go (Refused x) e later =
+    go : (c : Checked) → here ≡ c → ((rest ≡ Ok tt → ⊥) → RefusesJob rest) → RefusesJob (and_then here rest)
+    go (Err x) e later =
         let stops = then_fails here rest x e ∙ sym e in
         subst RefusesJob (sym stops)
         ((job_refused h j (get_or rs j 0) (get_or ds j 0) (get_or ps j 0)).1
         (λ g. refused_not_passed x (sym e ∙ job_passes h j (get_or rs j 0) (get_or ds j 0) (get_or ps j 0) g)))
-    go Passed e later =
+    go (Ok tt) e later =
         let goes_on = then_passes here rest e in
         subst RefusesJob (sym goes_on) (later (λ q. n (goes_on ∙ q)))
 

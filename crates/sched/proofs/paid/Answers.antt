@@ -1,6 +1,6 @@
 -- `sched::paid` meets its contract: only a run at slot 0 can be free, and only from a start awake.
 use native.Mathlib.Omega.{arith}
-use Rattle.sched.proofs.Tally.{paid_asleep, paid_empty, paid_sleeps, paid_free}
+use Rattle.sched.proofs.Tally.{paid_empty, paid_sleeps, paid_free}
 use Rattle.sched.proofs.paid.Goals as goal
 
 pub returns-then-table-eq0 : goal.returns-then-table-eq0
@@ -14,6 +14,3 @@ overflow_sub-result c = omega (arith, paid_free c.args.start c.args.runs c.args.
 
 pub returns-then-start : goal.returns-then-start
 returns-then-start c = omega (arith, paid_free c.args.start c.args.runs c.args.table.now c.if-start.true c.if-table-eq0.false c.if-table.false c.requires)
-
-pub returns : goal.returns
-returns c = paid_asleep c.args.start c.args.runs c.args.table.now c.if-start.false c.requires

@@ -21,27 +21,27 @@ returns-in_default c =
     (refused_puts a.block.now _ _ _ _ e c.put_refused.ensures)
 
 pub slice_bounds-releases-end : goal.slice_bounds-releases-end
-slice_bounds-releases-end c = (read_list c.args.list.now _ _ _ _ _ _ _ c.read-read.ensures _ c.in-Read.is).releases
+slice_bounds-releases-end c = (read_list c.args.list.now _ _ _ _ _ _ _ c.read-read.ensures _ c.in-Ok.is).releases
 
 pub slice_bounds-plan-end : goal.slice_bounds-plan-end
-slice_bounds-plan-end c = sym (length-take-le _ _ (read_list c.args.list.now _ _ _ _ _ _ _ c.read-read.ensures _ c.in-Read.is).releases)
+slice_bounds-plan-end c = sym (length-take-le _ _ (read_list c.args.list.now _ _ _ _ _ _ _ c.read-read.ensures _ c.in-Ok.is).releases)
 
 pub slice_bounds-deadlines-end : goal.slice_bounds-deadlines-end
-slice_bounds-deadlines-end c = (read_list c.args.list.now _ _ _ _ _ _ _ c.read-read.ensures _ c.in-Read.is).deadlines
+slice_bounds-deadlines-end c = (read_list c.args.list.now _ _ _ _ _ _ _ c.read-read.ensures _ c.in-Ok.is).deadlines
 
 pub slice_bounds-plan-end-2 : goal.slice_bounds-plan-end-2
-slice_bounds-plan-end-2 c = sym (length-take-le _ _ (read_list c.args.list.now _ _ _ _ _ _ _ c.read-read.ensures _ c.in-Read.is).deadlines)
+slice_bounds-plan-end-2 c = sym (length-take-le _ _ (read_list c.args.list.now _ _ _ _ _ _ _ c.read-read.ensures _ c.in-Ok.is).deadlines)
 
 pub slice_bounds-volumes-end : goal.slice_bounds-volumes-end
-slice_bounds-volumes-end c = (read_list c.args.list.now _ _ _ _ _ _ _ c.read-read.ensures _ c.in-Read.is).volumes
+slice_bounds-volumes-end c = (read_list c.args.list.now _ _ _ _ _ _ _ c.read-read.ensures _ c.in-Ok.is).volumes
 
 pub slice_bounds-plan-end-3 : goal.slice_bounds-plan-end-3
-slice_bounds-plan-end-3 c = sym (length-take-le _ _ (read_list c.args.list.now _ _ _ _ _ _ _ c.read-read.ensures _ c.in-Read.is).volumes)
+slice_bounds-plan-end-3 c = sym (length-take-le _ _ (read_list c.args.list.now _ _ _ _ _ _ _ c.read-read.ensures _ c.in-Ok.is).volumes)
 
 pub returns : goal.returns
 returns c =
     let a = c.args in
-    let l = read_list a.list.now _ _ _ _ _ _ _ c.read-read.ensures _ c.in-Read.is in
+    let l = read_list a.list.now _ _ _ _ _ _ _ c.read-read.ensures _ c.in-Ok.is in
     promise_planned a.list.now a.table.now a.block.now _ _ _ _ _
     (λ i. omega (arith, c.type_inv.list i)) c.if-block-lt16.false l.passed l.jobs
     c.plan-outcome.ensures c.put_outcome.ensures

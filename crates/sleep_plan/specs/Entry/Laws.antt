@@ -1,11 +1,9 @@
 -- From what the reader, the planner and the block's functions promise to what the entry promises.
-use Rattle.std.specs.Prelude.{ℕ, ◌≤◌, ◌<◌, ◌≡◌, List, [], ◌∷◌, length}
+use Rattle.std.specs.Prelude.{ℕ, ◌≤◌, ◌<◌, ◌≡◌, List, [], ◌∷◌, length, Err, Ok}
 use Rattle.std.proofs.Common.{ap, lt-ltb, le-ltb}
-use Rattle.sched.specs.Refusals.{number, place}
+use Rattle.sched.specs.Refusals.{number, place, Checked}
 use Rattle.steps.specs.Outcomes.{plan}
 use Rattle.sched.specs.declared.Refusal.{Refusal}
-use Rattle.sched.specs.declared.Checked.{Checked}
-use Rattle.sched.specs.declared.Checked.TheVariants.{Passed, Refused as Faulty}
 use Rattle.joblist.specs.Reading.{list_of}
 use Rattle.sleep_plan.specs.Block.{block_length}
 use Rattle.sleep_plan.specs.Entry.{answer_of, after_read, bytes_check, call_answer, in_block, entry}
@@ -19,10 +17,10 @@ pub entry_answers : (list table block : List ℕ) → block_length ≤ length bl
 unfolding entry
 entry_answers list table block l = rw (le-ltb (length block) block_length l, entry)
 
-pub answer_refused : (list table : List ℕ) (r : Refusal) → bytes_check list ≡ Faulty r → call_answer list table ≡ record { number = number r; values = place r ∷ []; table = table }
+pub answer_refused : (list table : List ℕ) (r : Refusal) → bytes_check list ≡ Err r → call_answer list table ≡ record { number = number r; values = place r ∷ []; table = table }
 unfolding call_answer
 answer_refused list table r e = ap (λ (c : Checked). after_read c list table) e
 
-pub answer_planned : (list table : List ℕ) → bytes_check list ≡ Passed → call_answer list table ≡ answer_of (plan (list_of list) table)
+pub answer_planned : (list table : List ℕ) → bytes_check list ≡ Ok tt → call_answer list table ≡ answer_of (plan (list_of list) table)
 unfolding call_answer
 answer_planned list table e = ap (λ (c : Checked). after_read c list table) e

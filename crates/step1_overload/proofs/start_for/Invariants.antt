@@ -3,7 +3,4 @@ use Rattle.step1_overload.proofs.Visiting.{Visiting}
 use Rattle.step1_overload.proofs.start_for.Given as goal
 
 abbrev pub invariant-loop-at : goal.invariant-loop-at
-invariant-loop-at l = Visiting l.releases l.deadlines l.volumes l.b l.ranks l.arrivals l.sum l.at
-
-abbrev pub decreases-loop-at : goal.decreases-loop-at
-decreases-loop-at l = l.at
+invariant-loop-at l = Visiting l.jobs l.volumes l.b l.sum l.at

@@ -1,6 +1,6 @@
 -- `step3_extend::reaches` meets its contract, a rank a turn.
+use Rattle.std.proofs.Common.{refl}
 use Rattle.step3_extend.proofs.Gathering.{reaching_start, reaching_turn, reaching_end}
-use mathlib.Core.Path.{refl}
 use Rattle.step3_extend.proofs.reaches.Goals as goal
 
 pub loop-k-init : goal.loop-k-init

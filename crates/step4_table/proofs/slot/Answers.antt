@@ -1,9 +1,6 @@
 -- `slot` meets its contract: a sleeping slot changes nothing, an awake one runs the rank that goes on, or idles.
-use Rattle.step4_table.proofs.SlotBySlot.{slot_sleeps, slot_can_go, slot_can_serve, slot_idles, slot_runs}
+use Rattle.step4_table.proofs.SlotBySlot.{slot_can_go, slot_can_serve, slot_idles, slot_runs}
 use Rattle.step4_table.proofs.slot.Goals as goal
-
-pub returns-then-table-t : goal.returns-then-table-t
-returns-then-table-t c job stands = slot_sleeps _ _ _ _ _ _ _ _ _ _ _ _ job c.if-table-t.true c.requires.lookable.ready stands
 
 pub returns-then-ready-eq0 : goal.returns-then-ready-eq0
 returns-then-ready-eq0 c job stands = slot_idles c.requires.lookable c.current-ready.ensures _ _ job c.if-table-t.false stands c.if-ready-eq0.true

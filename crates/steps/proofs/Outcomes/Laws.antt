@@ -1,5 +1,5 @@
 -- The ways through a plan, whatever its steps: a faulty list, a short table, an overloaded interval, the steps.
-use Rattle.std.specs.Prelude.{ℕ, ◌≤◌, ◌<◌, List, length}
+use Rattle.std.specs.Prelude.{ℕ, ◌≤◌, ◌<◌, List, length, Err, Ok}
 use Rattle.std.proofs.Math.Path.{◌≡◌, refl, ap}
 use Rattle.std.proofs.Common.{◌∙◌, arith}
 use Rattle.std.proofs.Math.Option.{Option, none, some}
@@ -10,11 +10,10 @@ use Rattle.steps.specs.Overload.{shown_overload}
 use Rattle.steps.specs.Outcomes.{Plan, early_answer, plan_by}
 use Rattle.sched.specs.declared.Refusal.{Refusal}
 use Rattle.sched.specs.declared.Refusal.TheVariants.{TooShort}
-use Rattle.sched.specs.declared.Checked.{Checked}
-use Rattle.sched.specs.declared.Checked.TheVariants.{Passed, Refused as Faulty}
 use Rattle.sched.specs.declared.Interval.{Interval}
 use Rattle.sched.specs.declared.Outcome.{Outcome}
 use Rattle.sched.specs.declared.Outcome.TheVariants.{Overloaded, Refused}
+use Rattle.sched.specs.Refusals.{Checked}
 
 module _ (J : Jobs) (have : ℕ) where
   -- the tests of `early_answer`, each as a function of what it tests
@@ -23,23 +22,23 @@ module _ (J : Jobs) (have : ℕ) where
   after_step_one (some i) = some (Overloaded i)
 
   after_checks : Checked → Option Outcome
-  after_checks (Faulty r) = some (Refused r)
-  after_checks Passed = after_step_one (shown_overload J)
+  after_checks (Err r) = some (Refused r)
+  after_checks (Ok tt) = after_step_one (shown_overload J)
 
-  pub early_faulty : (r : Refusal) → check_of J ≡ Faulty r → early_answer J have ≡ some (Refused r)
+  pub early_faulty : (r : Refusal) → check_of J ≡ Err r → early_answer J have ≡ some (Refused r)
   unfolding early_answer after_checks after_step_one
   early_faulty r e = ap after_checks (then_fails (check_of J) (length_check have J.horizon) r e)
 
-  pub early_length : (r : Refusal) → check_of J ≡ Passed → length_check have J.horizon ≡ Faulty r → early_answer J have ≡ some (Refused r)
+  pub early_length : (r : Refusal) → check_of J ≡ Ok tt → length_check have J.horizon ≡ Err r → early_answer J have ≡ some (Refused r)
   unfolding early_answer after_checks after_step_one
   early_length r e l = ap after_checks (then_passes (check_of J) (length_check have J.horizon) e ∙ l)
 
-  pub early_short : check_of J ≡ Passed → have < J.horizon → early_answer J have ≡ some (Refused (TooShort J.horizon))
+  pub early_short : check_of J ≡ Ok tt → have < J.horizon → early_answer J have ≡ some (Refused (TooShort J.horizon))
   early_short e l = early_length (TooShort J.horizon) e (length_fails have J.horizon l)
 
   -- a list that passes the checks, lent a long enough table, comes to step 1
   module _ (p : Passes J) (l : J.horizon ≤ have) where
-    checked : and_then (check_of J) (length_check have J.horizon) ≡ Passed
+    checked : and_then (check_of J) (length_check have J.horizon) ≡ Ok tt
     checked = then_passes (check_of J) (length_check have J.horizon) (passes_passed J p) ∙ length_passes have J.horizon l
 
     pub early_overload : (i : Interval) → shown_overload J ≡ some i → early_answer J have ≡ some (Overloaded i)
@@ -56,10 +55,10 @@ module _ (J : Jobs) (have : ℕ) where
   none_shown none e = refl
   none_shown (some i) e = let z : ◌≡◌ {A = ℕ} 0 1 = cc in absurd (omega arith)
 
-  none_refused : (c : Checked) → after_checks c ≡ none → (c ≡ Passed) × (shown_overload J ≡ none)
+  none_refused : (c : Checked) → after_checks c ≡ none → (c ≡ Ok tt) × (shown_overload J ≡ none)
   unfolding after_checks
-  none_refused (Faulty r) e = let z : ◌≡◌ {A = ℕ} 0 1 = cc in absurd (omega arith)
-  none_refused Passed e = (refl, none_shown (shown_overload J) e)
+  none_refused (Err r) e = let z : ◌≡◌ {A = ℕ} 0 1 = cc in absurd (omega arith)
+  none_refused (Ok tt) e = (refl, none_shown (shown_overload J) e)
 
   pub early_open : early_answer J have ≡ none → Passes J × (J.horizon ≤ have) × (shown_overload J ≡ none)
   unfolding early_answer after_checks after_step_one

@@ -1,5 +1,5 @@
 -- 02, card 1, of the planner: it refuses a job exactly where the list checks do, by their number and place.
-use Rattle.std.specs.Prelude.{ℕ, refl, List, length}
+use Rattle.std.specs.Prelude.{ℕ, refl, List, length, Err, Ok}
 use Rattle.std.proofs.Common.{inl, inr, arith}
 use Rattle.std.proofs.Math.Option.{Option, none, some}
 use Rattle.sched.specs.Jobs.{Jobs}
@@ -8,12 +8,11 @@ use Rattle.sched.specs.Answers.{outcome_number, outcome_values}
 use Rattle.sched.proofs.Theorems.RefusesJob.{JobFaultNumber, not_job, other_length}
 use Rattle.sched.proofs.Theorems.TellsJob.{TellsJob, first_tells}
 use Rattle.sched.specs.declared.Interval.{Interval}
-use Rattle.sched.specs.declared.Checked.{Checked}
-use Rattle.sched.specs.declared.Checked.TheVariants.{Passed, Refused as Faulty}
 use Rattle.sched.specs.declared.Outcome.{Outcome}
 use Rattle.sched.specs.declared.Outcome.TheVariants.{Overloaded, Refused}
 use Rattle.steps.specs.Overload.{shown_overload}
 use Rattle.steps.specs.Outcomes.{Plan, planned, early_answer, plan_by, plan}
+use Rattle.sched.specs.Refusals.{Checked}
 
 -- The planner, as any whose own steps refuse no job: it refuses a job exactly where the list checks do, by their number and place.
 pub planner_tells_job : (steps : Jobs → List ℕ → Plan) (J : Jobs) (lent : List ℕ) → (JobFaultNumber (outcome_number (steps J lent).answer) → ⊥) →
@@ -30,7 +29,7 @@ planner_tells_job steps J lent other =
     shown o = elim o [ none ↦ none | some i ↦ some (Overloaded i) ]
 
     after : Checked → Plan
-    after c = ended (elim c [ Faulty r ↦ some (Refused r) | Passed ↦ shown (shown_overload J) ])
+    after c = ended (elim c [ Err r ↦ some (Refused r) | (Ok tt) ↦ shown (shown_overload J) ])
 
     unrefused : (o : Option Interval) → JobFaultNumber (outcome_number (ended (shown o)).answer) → ⊥
     unrefused none = other

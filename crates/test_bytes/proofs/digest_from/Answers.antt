@@ -1,23 +1,18 @@
--- `test_bytes::digest_from` meets its contract: a turn takes one byte.
-use Rattle.std.proofs.Common.{◌≡◌, ℕ, ◌+◌, ◌*◌, ◌%◌, ◌<◌, ◌≤◌, List, length, get_or, drop, sym, ap, ◌∙◌, add-one, drop_of_length-le, drop-cons}
+-- `test_bytes::digest_from` meets its contract: the fold takes one byte a step, as the definition does.
+use Rattle.std.proofs.Common.{rules, ◌≡◌, ℕ, ◌+◌, ◌*◌, ◌%◌, List, [], ◌∷◌, refl, ◌∙◌}
+use Rattle.std.specs.List.{fold}
 use Rattle.test_bytes.specs.Bytes.{digest_from}
 use Rattle.test_bytes.proofs.digest_from.Goals as goal
 
-digest_turn : (out : List ℕ) (sum i : ℕ) → i < length out →
-    digest_from sum (drop i out) ≡ digest_from ((sum % 1000003 * 257 + get_or out i 0 % 1000003 + 1) % 1000003) (drop (i + 1) out)
-unfolding digest_from
-digest_turn out sum i l =
-    ap (digest_from sum) (drop-cons out i 0 l)
-    ∙ ap (λ (k : ℕ). digest_from ((sum % 1000003 * 257 + get_or out i 0 % 1000003 + 1) % 1000003) (drop k out)) (sym (add-one i))
+abbrev mixed : ℕ → ℕ → ℕ
+mixed sum byte = (sum % 1000003 * 257 + byte % 1000003 + 1) % 1000003
 
-digest_end : (out : List ℕ) (sum i : ℕ) → length out ≤ i → digest_from sum (drop i out) ≡ sum
+digest-folded : (sum : ℕ) (bytes : List ℕ) → fold mixed sum bytes ≡ digest_from sum bytes
 unfolding digest_from
-digest_end out sum i l = rw (drop_of_length-le out {i = i} l)
-
-pub loop-i-preserved : goal.loop-i-preserved
-loop-i-preserved c =
-    c.loop-i.invariant ∙ digest_turn c.args.out.now c.loop-i.all c.loop-i.i c.loop-i-test.true
-    ∙ ap (λ (x : ℕ). digest_from x (drop (c.loop-i.i + 1) c.args.out.now)) (sym c.mixed-all.ensures)
+digest-folded sum [] = refl
+digest-folded sum (byte ∷ bytes) = digest-folded (mixed sum byte) bytes
 
 pub returns : goal.returns
-returns c = sym (c.loop-i.invariant ∙ digest_end c.args.out.now c.loop-i.all c.loop-i.i c.loop-i-test.false)
+returns c =
+    let folded : c.fold.result ≡ fold mixed c.args.sum c.args.out.now = search rules in
+    folded ∙ digest-folded c.args.sum c.args.out.now

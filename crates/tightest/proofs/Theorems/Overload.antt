@@ -1,5 +1,5 @@
 -- 02, card 7: the slack is below zero exactly where the planner says overloaded, by the words of `specs/Theorems/Overload`.
-use Rattle.std.specs.Prelude.{ℕ, ◌≤◌, ◌≡◌, Bool, List, ◌↔◌, length, pos, ◌<ℤ◌}
+use Rattle.std.specs.Prelude.{ℕ, ◌≤◌, ◌≡◌, Bool, List, ◌↔◌, length, pos, ◌<ℤ◌, Err, Ok, Result}
 use Rattle.std.proofs.Math.Path.{refl, ap}
 use Rattle.std.proofs.Common.{sym, subst, ◌∙◌, arith}
 use Rattle.std.proofs.Math.Option.{Option, none, some}
@@ -11,8 +11,6 @@ use Rattle.steps.specs.Overload.{Overfull, shown_overload, volume_inside}
 use Rattle.steps.specs.Outcomes.{Plan, plan, planned}
 use Rattle.sched.specs.Answers.{outcome_number}
 use Rattle.steps.proofs.Outcomes.Laws.{early_faulty, early_overload, early_none, plan_ended, plan_goes_on}
-use Rattle.sched.specs.declared.Checked.{Checked}
-use Rattle.sched.specs.declared.Checked.TheVariants.{Passed, Refused as Faulty}
 use Rattle.sched.specs.declared.Interval.{Interval}
 use Rattle.sched.specs.declared.Outcome.{Outcome}
 use Rattle.sched.specs.declared.Outcome.TheVariants.{Overloaded, Refused}
@@ -20,13 +18,13 @@ use Rattle.laws_edf.proofs.Theorems.{shown_ends}
 use Rattle.laws_edf.proofs.Overload.Shown.{some_shown, shown_some}
 use Rattle.planner.specs.Promises.{PlanPromise}
 use Rattle.tightest.specs.declared.Tight.{Tight}
-use Rattle.tightest.specs.declared.Tightness.{Tightness}
-use Rattle.tightest.specs.declared.Tightness.TheVariants.{Found}
 use Rattle.tightest.proofs.Signed.{at_most_less, negative_if, negative_only}
 use Rattle.tightest.specs.Slack.{slack_of, ReleaseToDeadline, IsTightest, tightest_of}
 use Rattle.tightest.specs.Answer.{TightnessPromise}
 use Rattle.tightest.proofs.Answer.Laws.{found_checked, found_if}
 use Rattle.tightest.specs.Theorems.Overload.{BelowZero}
+use Rattle.sched.specs.declared.Refusal.{Refusal}
+use Rattle.sched.specs.Refusals.{Checked}
 
 -- the planner says overload exactly where an interval is shown
 module _ (J : Jobs) (lent : List ℕ) (long : J.horizon ≤ length lent) where
@@ -44,9 +42,9 @@ module _ (J : Jobs) (lent : List ℕ) (long : J.horizon ≤ length lent) where
       by_shown p (some i) e = (i, e)
 
       by_check : (c : Checked) → check_of J ≡ c → Passes J × ((i : Interval) × (shown_overload J ≡ some i))
-      by_check (Faulty r) e =
+      by_check (Err r) e =
           absurd (refusal_not_overload r (sym (ap (λ (x : Plan). outcome_number x.answer) (plan_ended planned J lent (Refused r) (early_faulty J (length lent) r e))) ∙ n))
-      by_check Passed e = let p = passed_passes J e in (p, by_shown p (shown_overload J) refl)
+      by_check (Ok tt) e = let p = passed_passes J e in (p, by_shown p (shown_overload J) refl)
 
 -- the tightest interval is overloaded exactly where one is
 
@@ -62,7 +60,7 @@ unfolding slack_of
 overfull_tightest J x t a b s o = at_most_less (t.least a b s) (negative_if a b (volume_inside J a b) (omega (arith, o.span, o.more)))
 
 module _ (J : Jobs) (lent : List ℕ) (long : J.horizon ≤ length lent) (answer : Outcome) (n_is : outcome_number answer ≡ outcome_number (plan J lent).answer)
-    (report : Tightness) (promise : TightnessPromise J report) where
+    (report : Result Tight Refusal) (promise : TightnessPromise J report) where
   overload_if : BelowZero report → outcome_number answer ≡ 18
   overload_if z =
       let p = (found_checked J z.interval (sym promise.same ∙ z.found)).0 in
@@ -81,7 +79,7 @@ module _ (J : Jobs) (lent : List ℕ) (long : J.horizon ≤ length lent) (answer
       record { interval = tightest_of J; found = f; negative = overfull_tightest J (tightest_of J) (promise.tightest (tightest_of J) f) i.a i.b s o }
 
 pub below_zero_iff_overload :
-    (h q : ℕ) (start : Bool) (rs ds ps lent table : List ℕ) (answer : Outcome) (report : Tightness) → h ≤ length lent →
+    (h q : ℕ) (start : Bool) (rs ds ps lent table : List ℕ) (answer : Outcome) (report : Result Tight Refusal) → h ≤ length lent →
     PlanPromise (jobs_from h q start rs ds ps) lent answer table →
     ((q : ℕ) (start : Bool) → TightnessPromise (jobs_from h q start rs ds ps) report) →
     BelowZero report ↔ (outcome_number answer ≡ 18)

@@ -1,30 +1,10 @@
--- `count` meets its contract: it adds the ones of one byte a turn.
-use Prim.Native.Nat.{◌≤◌, ◌<◌}
-use native.Mathlib.Omega.{arith}
-use lib.ListN.{get_or}
-use lib.Count.{ones, ones-le}
-use Rattle.record_map.proofs.MapRead.{ones_start, ones_turn, ones_end}
+-- `count` meets its contract: the library's sum adds up the ones of each byte.
+use Rattle.std.proofs.Common.{refl, arith}
+use Rattle.std.proofs.lemmas.Grind.{common_steps}
+use Rattle.std.proofs.lemmas.List.Recursion.{is_sum_by}
+use Rattle.sched.specs.Bounded.{total}
 use Rattle.record_map.proofs.reader.count.Goals as goal
 
-pub loop-k-init : goal.loop-k-init
-loop-k-init c = ones_start _
-
-pub overflow_cast-n : goal.overflow_cast-n
-overflow_cast-n c =
-    let byte : get_or c.args.bits.now c.loop-k.k 0 < 256 = omega (arith, c.type_inv.bits c.loop-k.k) in
-    let ones_few : ones (get_or c.args.bits.now c.loop-k.k 0) ≤ 8 = ones-le 8 _ byte in
-    omega (arith, ones_few)
-
-pub overflow_add-n : goal.overflow_add-n
-overflow_add-n c =
-    let byte : get_or c.args.bits.now c.loop-k.k 0 < 256 = omega (arith, c.type_inv.bits c.loop-k.k) in
-    let ones_few : ones (get_or c.args.bits.now c.loop-k.k 0) ≤ 8 = ones-le 8 _ byte in
-    omega (arith, ones_few, c.loop-k.invariant.few, c.loop-k.invariant.within, c.requires)
-
-pub loop-k-preserved : goal.loop-k-preserved
-loop-k-preserved c =
-    let byte : get_or c.args.bits.now c.loop-k.k 0 < 256 = omega (arith, c.type_inv.bits c.loop-k.k) in
-    ones_turn _ _ _ c.loop-k.invariant c.loop-k-test.true byte
-
 pub returns : goal.returns
-returns c = ones_end _ _ _ c.loop-k.invariant c.loop-k-test.false
+unfolding total
+returns c = grind (arith, common_steps, is_sum_by total (λ x. x) refl (λ _ _. refl))

@@ -1,6 +1,6 @@
 -- `has_padding` meets its contract: the bits passed are all 0.
 use Prim.Native.Nat.{ℕ, ◌*◌, ◌<◌}
-use mathlib.Core.Path.{refl, sym, ◌∙◌}
+use mathlib.Core.Path.{sym, ◌∙◌}
 use mathlib.Core.List.{List}
 use native.Mathlib.Omega.{arith}
 use lib.ListN.{length}
@@ -11,9 +11,6 @@ use Rattle.record_map.proofs.reader.has_padding.Goals as goal
 
 within : (bits : List ℕ) (t : ℕ) → t < 8 * length bits → t < length (bits_of bits)
 within bits t l = omega (arith, length_bits bits)
-
-pub loop-t-init : goal.loop-t-init
-loop-t-init c = refl
 
 pub returns-then-is_awake : goal.returns-then-is_awake
 returns-then-is_awake c =

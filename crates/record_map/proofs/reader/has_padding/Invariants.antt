@@ -1,12 +1,8 @@
 -- `has_padding` meets its contract: the bits passed are all 0.
-use Prim.Native.Nat.{◌-◌, ◌*◌}
 use mathlib.Core.Path.{◌≡◌}
-use lib.ListN.{length, drop}
+use lib.ListN.{drop}
 use Rattle.record_map.specs.MapBits.{bits_of, some_bit}
 use Rattle.record_map.proofs.reader.has_padding.Given as goal
 
 abbrev pub invariant-loop-t : goal.invariant-loop-t
 invariant-loop-t l = some_bit (drop l.h (bits_of l.bits)) ≡ some_bit (drop l.t (bits_of l.bits))
-
-abbrev pub decreases-loop-t : goal.decreases-loop-t
-decreases-loop-t l = 8 * length l.bits - l.t

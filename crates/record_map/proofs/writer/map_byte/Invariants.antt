@@ -5,6 +5,3 @@ use Rattle.record_map.proofs.writer.map_byte.Given as goal
 
 abbrev pub invariant-loop-k : goal.invariant-loop-k
 invariant-loop-k l = Packed l.first (awake_of l.slots) l.byte l.k
-
-abbrev pub decreases-loop-k : goal.decreases-loop-k
-decreases-loop-k l = l.k

@@ -1,16 +1,10 @@
 -- `runs::size` meets its contract: a run a turn, from the awake slot where it begins.
 use native.Mathlib.Omega.{arith}
-use lib.ListN.{length}
-use Rattle.sched.specs.Slots.{awake_of}
-use Rattle.sched.proofs.Runs.Search.{run_moves}
 use Rattle.report.proofs.Stretches.{lines_sized_start, lines_sized_few, lines_sized_turn, lines_sized_end}
 use Rattle.report.proofs.runs.size.Goals as goal
 
 pub loop-first-init : goal.loop-first-init
 loop-first-init c = lines_sized_start _ _ c.end-first.ensures
-
-pub overflow_sub-behind : goal.overflow_sub-behind
-overflow_sub-behind c = c.end-behind.ensures.starts
 
 pub overflow_add-n : goal.overflow_add-n
 overflow_add-n c =
@@ -18,15 +12,6 @@ overflow_add-n c =
       arith,
       lines_sized_few _ _ _ c.loop-first.invariant _ _ c.loop-first-test.true c.end-behind.ensures c.run_size-n.ensures
           c.requires,
-    )
-
-pub loop-first-smaller : goal.loop-first-smaller
-loop-first-smaller c =
-    omega (
-      arith,
-      c.end-first-in-loop-first.ensures.starts,
-      run_moves (awake_of c.args.table.now) (length c.args.table.now) c.loop-first.first _ c.loop-first.invariant.from
-          c.loop-first-test.true c.end-behind.ensures,
     )
 
 pub loop-first-preserved : goal.loop-first-preserved

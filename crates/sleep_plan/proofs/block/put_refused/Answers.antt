@@ -2,8 +2,8 @@
 use Rattle.sleep_plan.proofs.Stores.{puts_none, puts_refused}
 use Rattle.sleep_plan.proofs.block.put_refused.Goals as goal
 
-pub returns-in-Read : goal.returns-in-Read
-returns-in-Read c = let a = c.args in puts_none a.block.now a.read _ c.in-Read.is
+pub returns-in-Ok : goal.returns-in-Ok
+returns-in-Ok c = let a = c.args in puts_none a.block.now a.read _ c.in-Ok.is
 
-pub returns-in-Refused : goal.returns-in-Refused
-returns-in-Refused c = let a = c.args in puts_refused a.block.now a.read _ _ _ c.in-Refused.is c.put_refusal.ensures
+pub returns-in-Err : goal.returns-in-Err
+returns-in-Err c = let a = c.args in puts_refused a.block.now a.read _ _ _ c.in-Err.is c.put_refusal.ensures

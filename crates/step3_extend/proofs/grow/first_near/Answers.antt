@@ -5,14 +5,11 @@ use Rattle.step3_extend.proofs.grow.first_near.Goals as goal
 pub loop-t-init : goal.loop-t-init
 loop-t-init c = sleeping_start _
 
-pub returns-then-t-eq0 : goal.returns-then-t-eq0
-returns-then-t-eq0 c = alone_none _
-
-pub returns-then-table-t : goal.returns-then-table-t
-returns-then-table-t c = alone_before _ _ c.loop-t.invariant
-
 pub loop-t-preserved : goal.loop-t-preserved
-loop-t-preserved c = sleeping_turn _ _ c.loop-t-test.true c.if-table-t.false c.loop-t.invariant
+loop-t-preserved c = sleeping_turn _ _ c.loop-t-test.true c.if-books-t.false c.loop-t.invariant
+
+pub returns-then-books-t : goal.returns-then-books-t
+returns-then-books-t c = rw c.saturating_sub.ensures (alone_before _ _ c.loop-t.invariant)
 
 pub returns : goal.returns
 returns c = alone_none _

@@ -7,3 +7,8 @@ pub slice_bounds-settle-end : goal.slice_bounds-settle-end
 slice_bounds-settle-end c =
     let fits : 3 * c.args.g + 2 ≤ 196610 = omega (arith, c.requires) in
     sym (length-take-le _ _ fits)
+
+pub settle-requires-clause-long : goal.settle-requires-clause-long
+settle-requires-clause-long c =
+    let fits : 3 * c.args.g + 2 ≤ 196610 = omega (arith, c.requires) in
+    length-take-le _ _ fits

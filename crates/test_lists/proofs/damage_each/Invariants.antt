@@ -1,9 +1,0 @@
--- `damage_each` is safe and ends.
-use Prim.Native.Nat.{◌-◌}
-use Rattle.test_lists.proofs.damage_each.Given as goal
-
-abbrev pub invariant-loop-at : goal.invariant-loop-at
-invariant-loop-at l = Unit {0}
-
-abbrev pub decreases-loop-at : goal.decreases-loop-at
-decreases-loop-at l = 16 - l.at

@@ -1,9 +1,0 @@
--- `every::spell` is safe and ends: the table keeps its length, and the slot is one of it.
-use Rattle.std.proofs.Common.{◌≡◌, ◌≤◌, length}
-use Rattle.test_sleep.proofs.every.spell.Given as goal
-
-abbrev pub invariant-loop-t : goal.invariant-loop-t
-invariant-loop-t l = (length l.table ≡ length l.initial.table) × (l.t ≤ length l.initial.table)
-
-abbrev pub decreases-loop-t : goal.decreases-loop-t
-decreases-loop-t l = l.t

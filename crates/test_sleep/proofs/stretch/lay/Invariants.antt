@@ -1,9 +1,0 @@
--- `stretch::lay` is safe and ends: the table keeps its length.
-use Rattle.std.proofs.Common.{◌≡◌, ◌-◌, length}
-use Rattle.test_sleep.proofs.stretch.lay.Given as goal
-
-abbrev pub invariant-loop-t : goal.invariant-loop-t
-invariant-loop-t l = length l.table ≡ length l.initial.table
-
-abbrev pub decreases-loop-t : goal.decreases-loop-t
-decreases-loop-t l = length l.initial.table - l.t
