@@ -36,8 +36,8 @@ extern "C" {
 /* The version of this header and of the archives that come with it. */
 #define SLEEP_PLAN_VERSION_MAJOR 0
 #define SLEEP_PLAN_VERSION_MINOR 9
-#define SLEEP_PLAN_VERSION_PATCH 3
-#define SLEEP_PLAN_VERSION "0.9.3"
+#define SLEEP_PLAN_VERSION_PATCH 4
+#define SLEEP_PLAN_VERSION "0.9.4"
 
 /* Sizes. A list has at most SLEEP_PLAN_LIST_MAX bytes, a plan at most SLEEP_PLAN_TABLE_MAX slots. */
 #define SLEEP_PLAN_JOBS_MAX 64
@@ -45,9 +45,9 @@ extern "C" {
 #define SLEEP_PLAN_TABLE_MAX 4096
 #define SLEEP_PLAN_BLOCK_MIN 16
 
-/* Bytes of stack to have free for a call, on each processor. The deepest call that was measured took 2,464, with the archive for Cortex-M0 and the
+/* Bytes of stack to have free for a call, on each processor. The deepest call that was measured took 2,208, with the archive for Cortex-M0 and the
  * functions of lib/freestanding.c, compiled at -O2; other functions for memory can take some bytes more. */
-#define SLEEP_PLAN_STACK 2560
+#define SLEEP_PLAN_STACK 2304
 
 /* Bytes of the table that are no job number. */
 #define SLEEP_PLAN_IDLE 254

@@ -1,5 +1,5 @@
 -- Looking at a slot: expired ranks leave the bits, and released ones can join them.
-use Prim.Native.Nat.{ℕ, ◌*◌, ◌/◌, ◌^◌, ◌≤◌}
+use Prim.Native.Nat.{ℕ, ◌*◌, ◌/◌, ◌^◌, ◌≤◌, ◌<◌}
 use mathlib.Core.Path.{◌≡◌, refl, sym, ap, ◌∙◌}
 use mathlib.Core.Bool.{Bool, true, false, ◌&&◌}
 use mathlib.Core.List.{List}
@@ -12,8 +12,8 @@ use Rattle.laws_edf.specs.Orders.{job_at}
 use Rattle.orders.specs.declared.ordered_jobs.OrderedJobs.{OrderedJobs}
 use Rattle.queue.specs.declared.Ready.{Ready}
 use Rattle.queue.specs.Mask.Laws.{mask_alike, mask_drops}
-use Rattle.queue.specs.Arrivals.{come, waits, Come}
-use Rattle.queue.specs.Runs.{Expired, Arrivable, Lookable}
+use Rattle.queue.specs.Arrivals.{comes_at, goes_at, or_beyond, come, waits, Come}
+use Rattle.queue.specs.Runs.{Expired, Arrivable, Arrived, Lookable, Looked}
 
 -- expired ranks leave the bits
 
@@ -42,3 +42,15 @@ module _ {jobs : OrderedJobs} {left : List ℕ} {t : ℕ} {last : Ready} (g : Lo
   pub look_arrivable : {all : ℕ} → Expired jobs t last.gone all → (y : ℕ) → y ≡ last.mask / 2 ^ all * 2 ^ all → Arrivable jobs left t y last.next all
   look_arrivable {all = all} x y e =
       record { short = g.short; room = g.room; came = drop_come jobs left t last.mask last.next last.gone all y x.more e g.ready.came }
+
+-- what the calls gave, together; `until` is the earlier of a and b
+pub look_done : {jobs : OrderedJobs} {left : List ℕ} {t gone all : ℕ} → Expired jobs t gone all → (bits next a b until : ℕ) → Arrived jobs left t bits next all
+    → a ≡ or_beyond (length jobs.releases.now) (comes_at jobs.releases.now jobs.ranks.now jobs.arrivals.now) next
+    → b ≡ or_beyond (length jobs.deadlines.now) (goes_at jobs.deadlines.now jobs.ranks.now) all
+    → until ≤ a → until ≤ b → (t < a → t < b → t < until)
+    → Looked jobs left t (record { mask = bits; next = next; gone = all; until = until })
+look_done x bits next a b until r p q first second either =
+    record {
+      ready = record { came = r.came; went = x.went; next_release = omega (arith, p, first); next_deadline = omega (arith, q, second) };
+      before = either (omega (arith, p, r.later)) (omega (arith, q, x.later));
+    }

@@ -59,23 +59,29 @@ fn reaches(deadlines: &[u16; 64], lost: &[u16; 64], ends: &[u16; 64]) -> [u16; 6
     reach
 }
 
-// The books by job become books by rank, and slots are woken by them.
-fn grow_by_rank(jobs: &OrderedJobs<'_>, lost: &[u16], ends: &[u16], table: &mut [u8], short: u32)
-    requires { (J : Jobs) × Begun J jobs.now.releases.now jobs.now.deadlines.now jobs.now.ranks.now lost.now ends.now table.old short }
-    ensures { (J : Jobs) → Begun J jobs.now.releases.now jobs.now.deadlines.now jobs.now.ranks.now lost.now ends.now table.old short
+// The books by job become books by rank, in their place, and slots are woken by them.
+fn grow_by_rank(
+    jobs: &OrderedJobs<'_>,
+    lost: &mut [u16; 64],
+    ends: &mut [u16; 64],
+    table: &mut [u8],
+    short: u32,
+)
+    requires { (J : Jobs) × Begun J jobs.now.releases.now jobs.now.deadlines.now jobs.now.ranks.now lost.old ends.old table.old short }
+    ensures { (J : Jobs) → Begun J jobs.now.releases.now jobs.now.deadlines.now jobs.now.ranks.now lost.old ends.old table.old short
         → Extended J table.new short }
 {
     let ranks = jobs.ranks;
     let n = ranks.len();
     let releases = orders::ranked(jobs.releases, ranks);
     let deadlines = orders::ranked(jobs.deadlines, ranks);
-    let mut lost = orders::ranked(lost, ranks);
-    let mut ends = orders::ranked(ends, ranks);
-    let mut reach = reaches(&deadlines, &lost, &ends);
+    *lost = orders::ranked(lost, ranks);
+    *ends = orders::ranked(ends, ranks);
+    let mut reach = reaches(&deadlines, lost, ends);
     let mut books = Books {
-        lost: &mut lost,
+        lost,
         reach: &mut reach,
-        ends: &mut ends,
+        ends,
         table,
     };
     grow::grow(&releases[..n], &deadlines[..n], ranks, &mut books, short);
@@ -89,9 +95,9 @@ pub fn extend(jobs: &OrderedJobs<'_>, volumes: &[u16], table: &mut [u8]) -> u32
 {
     let mut lost = queue::units(volumes);
     queue::run(jobs, 0, &mut lost, table);
-    let ends = ends_of(table);
+    let mut ends = ends_of(table);
     // each slot that is woken gains one of the lost units
     let added = lost_in_all(&lost[..jobs.ranks.len()]);
-    grow_by_rank(jobs, &lost, &ends, table, added);
+    grow_by_rank(jobs, &mut lost, &mut ends, table, added);
     added
 }

@@ -26,7 +26,8 @@ pub fn page() {
 // A line `horizon` of `cases::tried` for 2, 3, 515 and all bytes, with the table and one of no bytes: the horizon in two bytes, and zeros behind it.
 fn horizon(h: u16, table: &mut [u8]) {
     let mut bytes = [0u8; 4700];
-    sched::put_word(h, 0, &mut bytes);
+    bytes[0] = (h % 256) as u8;
+    bytes[1] = (h / 256) as u8;
     for n in [2, 3, 515, 4700] {
         cases::tried(b"horizon", first(&bytes, n), table, 0);
     }

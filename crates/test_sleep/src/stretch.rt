@@ -3,7 +3,6 @@
 ghost use Rattle.std.specs.Prelude.{◌≡◌, ◌+◌, ◌*◌, ◌<◌, ◌≤◌, length};
 
 use super::tally::holding;
-use sched::IDLE;
 use test_bytes::number;
 
 // The byte of slot t for a stretch of g slots: g idle ones, job 5, g asleep, job 63, and idle ones.
@@ -44,9 +43,9 @@ fn settle(g: usize, q: u16, start: bool, table: &mut [u8])
     test_bytes::begin(start, b"stretch");
     number(g as u64);
     number(u64::from(q));
-    number(holding(&table[..g], IDLE));
-    number(holding(&table[g + 1..2 * g + 1], IDLE));
-    number(holding(&table[2 * g + 2..], IDLE));
+    number(holding(&table[..g], 254));
+    number(holding(&table[g + 1..2 * g + 1], 254));
+    number(holding(&table[2 * g + 2..], 254));
     test_bytes::end_line();
 }
 

@@ -1,9 +1,8 @@
 // What many tables are after the rule.
-use sched::{ASLEEP, IDLE};
 use test_bytes::{digest_from, number};
 
 // How many slots are idle and asleep, the energies added up, and a digest of all bytes. The sums are modulo 2^64, which none here comes near.
-#[derive(Default, Drop)]
+#[derive(Clone, Copy, Default)]
 pub struct Tally {
     pub idle: u64,
     pub asleep: u64,
@@ -28,8 +27,8 @@ impl Tally {
     // Puts the table under the rule, and takes it into the tally.
     pub fn settle(&mut self, q: u16, start: bool, table: &mut [u8]) {
         step5_sleep::sleep(q, start, table);
-        self.idle = self.idle.wrapping_add(holding(table, IDLE));
-        self.asleep = self.asleep.wrapping_add(holding(table, ASLEEP));
+        self.idle = self.idle.wrapping_add(holding(table, 254));
+        self.asleep = self.asleep.wrapping_add(holding(table, 255));
         self.energy = self.energy.wrapping_add(energy(q, start, table));
         self.sum = digest_from(self.sum, table);
     }

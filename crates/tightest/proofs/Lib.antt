@@ -1,3 +1,4 @@
+pub mod Machine
 pub mod Seeking
 pub mod Walk
 pub mod Walking

@@ -3,7 +3,7 @@ use Rattle.std.specs.Prelude.{ℕ, zero, suc, ◌+◌, ◌-◌, ◌≤◌, ◌<�
 use Rattle.std.proofs.Common.{sym, ap, subst, ◌∙◌, arith, lt-ltb, le-ltb, leb→le, le→leb, ltb→lt, lt→ltb}
 use Rattle.std.proofs.Math.Decide.{dec_lt}
 use Rattle.std.proofs.Math.IntN.{sub_ℕ, +ℤ_assoc, neg_ℤ-+ℤ}
-use Rattle.std.specs.Int.Signed.{lt_z, le_z, lt_z_no, <ℤ-≤ℤ_trans, clash_ℤ}
+use Rattle.std.specs.Int.Signed.{mag, lt_z, le_z, lt_z_no, <ℤ-≤ℤ_trans, clash_ℤ}
 use Rattle.sched.proofs.Bounded.Laws.{by_bool}
 
 -- The order
@@ -118,3 +118,11 @@ until_at_most a b v until l = rw (minus_sub b until, slack_sub a b v) (sub_at_mo
 
 pub until_less : (a b v until : ℕ) → a + v < until → (pos b -ℤ pos until) <ℤ slack_by a b v
 until_less a b v until l = rw (minus_sub b until, slack_sub a b v) (sub_less b until b (a + v) (omega arith))
+
+-- the range of a difference: one bound in ℕ
+pub minus_range : (b c far : ℕ) → b < far → c ≤ far → mag (pos b -ℤ pos c) < far
+minus_range b c far l m = subst (λ (z : ℤ). mag z < far) (sym (minus_sub b c)) (go (signs b c))
+  where
+    go : Signs b c → mag (sub_ℕ b c) < far
+    go (below k e) = rw e (omega arith)
+    go (above k e) = rw e (omega arith)

@@ -55,7 +55,7 @@ pub digits_most : (n : ℕ) → length (digits n) ≤ 20
 unfolding digits
 digits_most n = in_most 20 n
 
-length_low : (n : ℕ) → n < 10 → length (digits n) ≡ 1
+pub length_low : (n : ℕ) → n < 10 → length (digits n) ≡ 1
 length_low n l = ap length (digits_low n l)
 
 length_high : (n : ℕ) → 10 ≤ n → n < 18446744073709551616 → length (digits n) ≡ length (digits (n / 10)) + 1
@@ -72,9 +72,6 @@ length_by_log (suc k) n low high m =
     let p : 10 ^ suc k ≡ 10 ^ k * 10 = pow-suc 10 k in
     let ten : 10 ≤ n = omega (arith, one_le_pow k) in
     omega (arith, length_high n ten m, length_by_log k (n / 10) (omega arith) (omega arith) (omega arith))
-
-pub length_zero : (n m : ℕ) → n < 10 → m < 10 → length (digits n) ≡ length (digits m)
-length_zero n m l k = length_low n l ∙ sym (length_low m k)
 
 pub digits_some : (n : ℕ) → 1 ≤ length (digits n)
 unfolding digits
@@ -128,6 +125,21 @@ module _ (x at : ℕ) (out₀ out : List ℕ) (left place : ℕ) (s : Stored x a
       let some : 1 ≤ length (digits left) = digits_some left in
       (omega (arith, s.behind), omega (arith, s.behind, s.within, s.long))
 
+  -- more than one place is left exactly where more than one digit is
+  pub stored_high : at + 1 < place → 10 ≤ left
+  stored_high l = go (dec_lt left 10)
+    where
+      go : Dec (left < 10) → 10 ≤ left
+      go (yes low) = absurd (omega (arith, s.behind, length_low left low))
+      go (no high) = omega arith
+
+  pub stored_low : place ≤ at + 1 → left < 10
+  stored_low l = go (dec_lt left 10)
+    where
+      go : Dec (left < 10) → left < 10
+      go (yes low) = low
+      go (no high) = absurd (omega (arith, s.behind, length_high left (omega arith) s.small, digits_some (left / 10)))
+
   -- the first digit has its place, whatever has been stored behind it
   pub stored_first : at < length out
   stored_first = omega (arith, s.behind, s.within, s.long, digits_some left)
@@ -153,27 +165,3 @@ module _ (x at : ℕ) (out₀ out : List ℕ) (left place : ℕ) (s : Stored x a
         next = e;
         bytes = sym (s.rest ∙ ap (sets out at) (digits_low left l)) ∙ sets-eq (digits x) out₀ at room;
       }
-
--- storing, also where no digit is left
-pub record StoredTo (x at : ℕ) (out₀ out : List ℕ) (left place : ℕ) : Type 0 where
-  pub going : at < place → Stored x at out₀ out left place
-  pub done : place ≤ at → sets out₀ at (digits x) ≡ out
-
-pub stored_one : (x at : ℕ) (out₀ out : List ℕ) (left place : ℕ) → at < place → StoredTo x at out₀ out left place →
-    StoredTo x at out₀ (set out (place - 1) (48 + left % 10)) (left / 10) (place - 1)
-stored_one x at out₀ out left place l t = go (dec_lt left 10) (t.going l)
-  where
-    go : Dec (left < 10) → Stored x at out₀ out left place → StoredTo x at out₀ (set out (place - 1) (48 + left % 10)) (left / 10) (place - 1)
-    go (yes low) s =
-        let last : place - 1 ≡ at = omega (arith, s.behind, length_low left low) in
-        let digit : left % 10 ≡ left = omega arith in
-        record {
-          going = λ m. absurd (omega arith);
-          done = λ m. s.rest ∙ ap (sets out at) (digits_low left low) ∙ rw (last, digit);
-        }
-    go (no high) s =
-        let more = stored_turn x at out₀ out left place s (omega arith) in
-        record {
-          going = λ m. more;
-          done = λ m. absurd (omega (arith, more.behind, digits_some (left / 10)));
-        }

@@ -8,12 +8,12 @@ pub grow-requires : goal.grow-requires
 grow-requires c =
     let pre = c.requires in (
       pre.0,
-      gathered refl c.ranked-releases.ensures c.ranked-deadlines.ensures c.ranked-lost.ensures c.ranked-ends.ensures c.reaches-reach.ensures pre.1,
+      gathered refl c.ranked-releases.ensures c.ranked-deadlines.ensures c.ranked.ensures c.ranked-2.ensures c.reaches-reach.ensures pre.1,
     )
 
 pub returns : goal.returns
 returns c =
     λ J b.
     let grown = c.grow.ensures.extended J
-    (gathered refl c.ranked-releases.ensures c.ranked-deadlines.ensures c.ranked-lost.ensures c.ranked-ends.ensures c.reaches-reach.ensures b) in
+    (gathered refl c.ranked-releases.ensures c.ranked-deadlines.ensures c.ranked.ensures c.ranked-2.ensures c.reaches-reach.ensures b) in
     extended_along grown (search rules)

@@ -1,9 +1,8 @@
 -- `ending_at` meets its contract: a turn visits the last of the jobs that are left, and 64 volumes are far within 31 bits.
-use mathlib.Core.Path.{sym, subst, ◌∙◌}
+use mathlib.Core.Path.{sym, subst}
 use lib.IntN.{ℤ}
-use mir.Syntax.{w32}
-use mir.ValLaws.{to_z-of_z}
 use Rattle.tightest.specs.Search.{TightestTo}
+use Rattle.tightest.proofs.Machine.{result_is}
 use Rattle.tightest.proofs.Walking.{startable, known_at, due_at, volume_at, walking_start, walking_sum, walking_until, walking_place, walking_visit, walking_end}
 use Rattle.std.proofs.Common.{rules}
 use Rattle.tightest.proofs.ByRelease.ending_at.Goals as goal
@@ -37,4 +36,4 @@ pub returns : goal.returns
 returns c J p =
     let args = c.args in
     subst (λ (z : ℤ). TightestTo J args.b (record { slack = z; a = c.loop-at.far.a; b = args.b }))
-    (sym (to_z-of_z w32 c.slack_of.result (record { sfits = c.slack_of.type_inv }) ∙ c.slack_of.ensures)) (walking_end c.loop-at.invariant c.loop-at-test.false J p)
+    (sym (result_is c.slack_of.result _ c.slack_of.type_inv c.slack_of.ensures)) (walking_end c.loop-at.invariant c.loop-at-test.false J p)
